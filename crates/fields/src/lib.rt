@@ -1,0 +1,17 @@
+// The fields of a plan or a message: where they stand in the bytes, and the checks that every one of them meets.
+mod bytes;
+mod checks;
+mod fault;
+mod record;
+
+pub use bytes::byte;
+pub use bytes::two;
+pub use checks::check_end;
+pub use checks::field;
+pub use checks::header;
+pub use fault::FieldFault;
+pub use fault::FieldFaultDebug;
+pub use fault::FieldFaultPartialEq;
+pub use record::Record;
+pub use record::check_list;
+pub use record::read_list;

@@ -1,0 +1,3 @@
+-- The lemmas that the proofs of several steps share.
+mod Digits
+mod Laid
