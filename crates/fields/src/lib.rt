@@ -2,6 +2,7 @@
 mod bytes;
 mod checks;
 mod fault;
+mod limits;
 mod record;
 
 pub use bytes::byte;
@@ -12,6 +13,15 @@ pub use checks::header;
 pub use fault::FieldFault;
 pub use fault::FieldFaultDebug;
 pub use fault::FieldFaultPartialEq;
+pub use limits::BRANCH_KINDS;
+pub use limits::BRANCHES;
+pub use limits::LINES;
+pub use limits::OPERATIONS;
+pub use limits::PERSONS;
+pub use limits::PIECE_KINDS;
+pub use limits::PIECES;
+pub use limits::ROLES;
+pub use limits::SETS;
 pub use record::Record;
 pub use record::check_list;
 pub use record::read_list;

@@ -1,0 +1,9 @@
+pub mod Layout
+pub mod Branch
+pub mod Role
+pub mod Line
+pub mod Set
+pub mod Piece
+pub mod Plan
+pub mod Reader
+pub mod Refusals

@@ -1,0 +1,213 @@
+// The reader of plan files: every check in the order of the format, and only then the plan.
+ghost use mathlib.Core.Path.{_≡_};
+ghost use Prim.Native.Nat.{ℕ, _+_, _*_};
+ghost use lib.ListN.{getD};
+ghost use Rattle.std.specs.Vec.{made};
+ghost use Rattle.std.specs.declared.result.Result.the-variants.{Ok};
+ghost use Rattle.refusals.specs.Checks.{inOrder};
+ghost use Rattle.orders.specs.Parents.{parentsChecked};
+ghost use Rattle.orders.specs.Rows.{rowsChecked};
+ghost use Rattle.fields.specs.Records.{filled};
+ghost use Rattle.plans.specs.Plan.{parentsOf, rowsOf};
+ghost use Rattle.plans.specs.Reader.{countChecked, fieldSteps, lineApart, lineIn, linesApart, offsetOf, pairApart, planAfter, planMade, planResult, planSteps, principalStands, rowsRead};
+use crate::branch::Branch;
+use crate::branch::BranchRecord;
+use crate::fault::PlanFault;
+use crate::fault::PlanFromField;
+use crate::fault::PlanFromRows;
+use crate::layout::Layout;
+use crate::layout::Span;
+use crate::layout::lay_out;
+use crate::line::Line;
+use crate::line::LineRecord;
+use crate::piece::Piece;
+use crate::piece::PieceRecord;
+use crate::plan::Plan;
+use crate::plan::rows_of;
+use crate::role::Role;
+use crate::role::RoleRecord;
+use crate::set::Set;
+use crate::set::SetRecord;
+use fields::BRANCHES;
+use fields::FieldFault;
+use fields::LINES;
+use fields::PIECES;
+use fields::ROLES;
+use fields::Record;
+use fields::SETS;
+use fields::byte;
+use fields::check_end;
+use fields::check_list;
+use fields::field;
+use fields::header;
+use fields::read_list;
+use fields::two;
+use orders::Rows;
+use orders::RowsFault;
+use refusals::must;
+
+// The longest body that a length of two bytes can tell.
+const LONGEST: u16 = 65535;
+
+// The offset of a record in a list of records of so many bytes.
+fn offset(list: Span, size: u8, number: u16) -> u32
+    ensures { λ r. ⌜ r ≡ offsetOf list size number ⌝ }
+{
+    list.first as u32 + size as u32 * number as u32
+}
+
+// Tells whether the principal is a role and may stand at the top.
+fn principal_stands(bytes: &[u8], layout: Layout) -> bool
+    ensures { λ r. ⌜ r ≡ principalStands (now (bytes .entry)) layout ⌝ }
+{
+    let principal = byte(bytes, layout.principal as usize) as u16;
+    let role = Role::read(bytes, offset(layout.roles, 4, principal));
+    principal < layout.roles.count
+        && role.may_stand(Branch::read(bytes, offset(layout.branches, 2, 0)))
+}
+
+// A count within its bounds.
+fn check_count(
+    bytes: &[u8],
+    list: Span,
+    width: u8,
+    least: usize,
+    most: usize,
+) -> Result<(), FieldFault>
+    ensures { λ r. ⌜ r ≡ countChecked (now (bytes .entry)) list width least most ⌝ }
+{
+    let count = list.count as usize;
+    field(
+        bytes,
+        list.at as usize,
+        width as usize,
+        least <= count && count <= most,
+    )
+}
+
+// The header, each field in the order of the format, and the end.
+fn check_fields(bytes: &[u8], layout: Layout) -> Result<(), FieldFault>
+    ensures { λ r. ⌜ r ≡ inOrder (fieldSteps (now (bytes .entry)) layout) ⌝ }
+{
+    let Layout {
+        branches,
+        roles,
+        principal,
+        grants,
+        takes,
+        sets,
+        pieces,
+    } = layout;
+    header(bytes, LONGEST)?;
+    check_count(bytes, branches, 1, 1, BRANCHES)?;
+    check_list::<Branch>(bytes, layout, branches.first, branches.count)?;
+    check_count(bytes, roles, 1, 1, ROLES)?;
+    check_list::<Role>(bytes, layout, roles.first, roles.count)?;
+    field(
+        bytes,
+        principal as usize,
+        1,
+        principal_stands(bytes, layout),
+    )?;
+    check_count(bytes, grants, 1, 0, LINES)?;
+    check_list::<Line>(bytes, layout, grants.first, grants.count)?;
+    check_count(bytes, takes, 1, 0, LINES)?;
+    check_list::<Line>(bytes, layout, takes.first, takes.count)?;
+    check_count(bytes, sets, 1, 0, SETS)?;
+    check_list::<Set>(bytes, layout, sets.first, sets.count)?;
+    check_count(bytes, pieces, 2, 0, PIECES)?;
+    check_list::<Piece>(bytes, layout, pieces.first, pieces.count)?;
+    check_end(bytes, offset(pieces, 2, pieces.count) as usize)
+}
+
+// The rows of the roles are an order.
+fn check_rows(bytes: &[u8], layout: Layout) -> Result<(), RowsFault>
+    ensures { λ r. ⌜ r ≡ rowsRead (now (bytes .entry)) layout ⌝ }
+{
+    let roles = read_list::<Role, ROLES>(bytes, layout.roles.first, layout.roles.count);
+    Rows::new(rows_of(&roles), byte(bytes, layout.roles.at as usize))?;
+    Ok(())
+}
+
+fn line_in(bytes: &[u8], lines: Span, number: u16) -> Line
+    ensures { λ r. ⌜ r ≡ lineIn (now (bytes .entry)) lines number ⌝ }
+{
+    Line::read(bytes, offset(lines, 6, number))
+}
+
+// Line `k` has another pair than line `j`.
+fn check_pair(bytes: &[u8], lines: Span, k: u16, j: u16) -> Result<(), PlanFault>
+    ensures { λ r. ⌜ r ≡ pairApart (now (bytes .entry)) lines k j ⌝ }
+{
+    let same = line_in(bytes, lines, j).same_pair(line_in(bytes, lines, k));
+    must(!same, PlanFault::Repeated(offset(lines, 6, k) as usize))
+}
+
+// Line `k` repeats the pair of no earlier line.
+fn check_line(bytes: &[u8], lines: Span, k: u16) -> Result<(), PlanFault>
+    ensures { λ r. ⌜ r ≡ lineApart (now (bytes .entry)) lines k ⌝ }
+{
+    for j in 0..k {
+        check_pair(bytes, lines, k, j)?;
+    }
+    Ok(())
+}
+
+// No line of the list repeats the pair of an earlier one.
+fn check_lines(bytes: &[u8], lines: Span) -> Result<(), PlanFault>
+    ensures { λ r. ⌜ r ≡ linesApart (now (bytes .entry)) lines ⌝ }
+{
+    for k in 0..lines.count {
+        check_line(bytes, lines, k)?;
+    }
+    Ok(())
+}
+
+// All checks of a plan.
+fn check(bytes: &[u8], layout: Layout) -> Result<(), PlanFault>
+    ensures { λ r. ⌜ r ≡ inOrder (planSteps (now (bytes .entry)) layout) ⌝ }
+{
+    check_fields(bytes, layout)?;
+    check_rows(bytes, layout)?;
+    check_lines(bytes, layout.grants)?;
+    check_lines(bytes, layout.takes)
+}
+
+// Writes the plan that the bytes hold into the lent place.
+fn fill(bytes: &[u8], layout: Layout, into: &mut Plan)
+    ensures { λ _. ⌜ now (into .exit) ≡ planMade (now (bytes .entry)) layout ⌝ }
+{
+    let Layout {
+        branches,
+        roles,
+        principal,
+        grants,
+        takes,
+        sets,
+        pieces,
+    } = layout;
+    into.branches = read_list::<Branch, BRANCHES>(bytes, branches.first, branches.count);
+    into.branch_count = byte(bytes, branches.at as usize);
+    into.roles = read_list::<Role, ROLES>(bytes, roles.first, roles.count);
+    into.role_count = byte(bytes, roles.at as usize);
+    into.principal = byte(bytes, principal as usize);
+    into.grants = read_list::<Line, LINES>(bytes, grants.first, grants.count);
+    into.grant_count = byte(bytes, grants.at as usize);
+    into.takes = read_list::<Line, LINES>(bytes, takes.first, takes.count);
+    into.take_count = byte(bytes, takes.at as usize);
+    into.sets = read_list::<Set, SETS>(bytes, sets.first, sets.count);
+    into.set_count = byte(bytes, sets.at as usize);
+    into.pieces = read_list::<Piece, PIECES>(bytes, pieces.first, pieces.count);
+    into.piece_count = two(bytes, pieces.at as usize);
+}
+
+// Reads a plan file into the lent plan; a refusal leaves the plan as found.
+pub fn read(bytes: &[u8], into: &mut Plan) -> Result<(), PlanFault>
+    ensures answer { λ r. ⌜ r ≡ planResult (now (bytes .entry)) ⌝ }
+    ensures leaves { λ r. ⌜ now (into .exit) ≡ planAfter (now (into .entry)) (now (bytes .entry)) r ⌝ }
+{
+    let layout = lay_out(bytes);
+    check(bytes, layout)?;
+    fill(bytes, layout, into);
+    Ok(())
+}
