@@ -1,2 +1,3 @@
 mod Filled
 mod Laid
+mod PlanOrders

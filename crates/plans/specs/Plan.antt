@@ -1,7 +1,11 @@
 -- The plan and what the orders take from it.
 use mathlib.Core.List.{List, map}
+use mathlib.Core.Path.{_≡_}
 use Prim.Native.Nat.{ℕ}
 use lib.ListN.{replicate}
+use Rattle.std.specs.declared.result.Result.the-variants.{Ok}
+use Rattle.orders.specs.Parents.{parentsChecked}
+use Rattle.orders.specs.Rows.{rowsChecked}
 use Rattle.plans.specs.declared.branch.Branch.{Branch}
 use Rattle.plans.specs.declared.role.Role.{Role}
 use Rattle.plans.specs.declared.plan.Plan.{Plan}
@@ -18,6 +22,11 @@ parentsOf branches = map (λ branch. branch .parent) branches
 -- the row of each role
 abbrev pub rowsOf : List Role → List ℕ
 rowsOf roles = map (λ role. role .row) roles
+
+-- the plan gives both orders: its parents and its rows pass
+pub record Ordered (plan : Plan) : Type 0 where
+  pub branches : parentsChecked (parentsOf (plan .branches)) (plan .«branch_count») ≡ Ok tt
+  pub roles : rowsChecked 16 (rowsOf (plan .roles)) (plan .«role_count») ≡ Ok tt
 
 -- the plan that holds nothing
 unfoldable pub emptyPlan : Plan

@@ -8,7 +8,7 @@ ghost use Rattle.refusals.specs.Checks.{inOrder};
 ghost use Rattle.orders.specs.Parents.{parentsChecked};
 ghost use Rattle.orders.specs.Rows.{rowsChecked};
 ghost use Rattle.fields.specs.Records.{filled};
-ghost use Rattle.plans.specs.Plan.{parentsOf, rowsOf};
+ghost use Rattle.plans.specs.Plan.{Ordered};
 ghost use Rattle.plans.specs.Reader.{countChecked, fieldSteps, lineApart, lineIn, linesApart, offsetOf, pairApart, planAfter, planMade, planResult, planSteps, principalStands, rowsRead};
 use crate::branch::Branch;
 use crate::branch::BranchRecord;
@@ -201,10 +201,11 @@ fn fill(bytes: &[u8], layout: Layout, into: &mut Plan)
     into.piece_count = two(bytes, pieces.at as usize);
 }
 
-// Reads a plan file into the lent plan; a refusal leaves the plan as found.
+// Reads a plan file into the lent plan; a refusal leaves the plan as found. A plan that was read gives both orders.
 pub fn read(bytes: &[u8], into: &mut Plan) -> Result<(), PlanFault>
     ensures answer { λ r. ⌜ r ≡ planResult (now (bytes .entry)) ⌝ }
     ensures leaves { λ r. ⌜ now (into .exit) ≡ planAfter (now (into .entry)) (now (bytes .entry)) r ⌝ }
+    ensures ordered { λ r. ⌜ made r (λ _. Ordered (now (into .exit))) ⌝ }
 {
     let layout = lay_out(bytes);
     check(bytes, layout)?;
