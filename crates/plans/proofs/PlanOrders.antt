@@ -27,7 +27,7 @@ use Rattle.plans.specs.declared.layout.Layout.{Layout}
 use Rattle.plans.specs.Branch.{mayBeParent, branchChecked, branchAt, noBranch}
 use Rattle.plans.specs.Layout.{layoutOf, branchesIn, rolesIn}
 use Rattle.plans.specs.Plan.{parentsOf, Ordered}
-use Rattle.plans.specs.Reader.{offsetOf, countChecked, fieldSteps, ofFields, ofRows, rowsRead, planSteps, planResult, planMade}
+use Rattle.plans.specs.Reader.{offsetOf, countChecked, bodySteps, fieldSteps, ofFields, ofRows, rowsRead, planSteps, planResult, planMade}
 
 -- a field that passed keeps its rule
 field-rule : (bytes : List ℕ) (at size : ℕ) (rule : Bool) → fieldChecked bytes at size rule ≡ Ok tt → rule ≡ true
@@ -80,4 +80,5 @@ read-orders bytes e =
     let layout = layoutOf bytes in
     let passed = all-passed (planSteps bytes layout) e in
     let fields = all-passed (fieldSteps bytes layout) (fields-passed (inOrder (fieldSteps bytes layout)) (passed .0)) in
-    record { branches = parents-pass bytes layout (fields .1 .0) (fields .1 .1 .0); roles = rows-passed (rowsRead bytes layout) (passed .1 .0) }
+    let body = all-passed (bodySteps bytes layout) (fields .0) in
+    record { branches = parents-pass bytes layout (body .1 .0) (body .1 .1 .0); roles = rows-passed (rowsRead bytes layout) (passed .1 .0) }

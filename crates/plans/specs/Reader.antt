@@ -42,25 +42,39 @@ principalStands bytes layout =
 abbrev pub countChecked : List ℕ → Span → ℕ → ℕ → ℕ → Result (Unit {0}) FieldFault
 countChecked bytes list width least most = fieldChecked bytes (list .at) width (leb least (list .count) && leb (list .count) most)
 
--- the header, each field in the order of the format, and the end
-abbrev pub fieldSteps : List ℕ → Layout → List (Result (Unit {0}) FieldFault)
-fieldSteps bytes layout =
+-- the header, the branches, the roles and the principal, field by field
+abbrev pub bodySteps : List ℕ → Layout → List (Result (Unit {0}) FieldFault)
+bodySteps bytes layout =
     headerChecked bytes 65535
     ∷ countChecked bytes (layout .branches) 1 1 64
     ∷ every (layout .branches .count) (λ k. branchChecked bytes layout (offsetOf (layout .branches) 2 k) k)
     ∷ countChecked bytes (layout .roles) 1 1 16
     ∷ every (layout .roles .count) (λ k. roleChecked bytes layout (offsetOf (layout .roles) 4 k) k)
     ∷ fieldChecked bytes (layout .principal) 1 (principalStands bytes layout)
-    ∷ countChecked bytes (layout .grants) 1 0 64
+    ∷ []
+
+-- the grant lines and the take lines, field by field
+abbrev pub lineSteps : List ℕ → Layout → List (Result (Unit {0}) FieldFault)
+lineSteps bytes layout =
+    countChecked bytes (layout .grants) 1 0 64
     ∷ every (layout .grants .count) (λ k. lineChecked bytes layout (offsetOf (layout .grants) 6 k) k)
     ∷ countChecked bytes (layout .takes) 1 0 64
     ∷ every (layout .takes .count) (λ k. lineChecked bytes layout (offsetOf (layout .takes) 6 k) k)
-    ∷ countChecked bytes (layout .sets) 1 0 8
+    ∷ []
+
+-- the sets and the pieces, field by field, and nothing behind them
+abbrev pub pieceSteps : List ℕ → Layout → List (Result (Unit {0}) FieldFault)
+pieceSteps bytes layout =
+    countChecked bytes (layout .sets) 1 0 8
     ∷ every (layout .sets .count) (λ k. setChecked bytes layout (offsetOf (layout .sets) 3 k) k)
     ∷ countChecked bytes (layout .pieces) 2 0 1024
     ∷ every (layout .pieces .count) (λ k. pieceChecked bytes layout (offsetOf (layout .pieces) 2 k) k)
     ∷ endChecked bytes (offsetOf (layout .pieces) 2 (layout .pieces .count))
     ∷ []
+
+-- all fields, in the order of the format
+abbrev pub fieldSteps : List ℕ → Layout → List (Result (Unit {0}) FieldFault)
+fieldSteps bytes layout = inOrder (bodySteps bytes layout) ∷ inOrder (lineSteps bytes layout) ∷ inOrder (pieceSteps bytes layout) ∷ []
 
 -- the roles in an array of 16
 abbrev pub rolesRead : List ℕ → Layout → List Role

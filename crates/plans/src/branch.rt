@@ -8,7 +8,7 @@ use fields::Record;
 use fields::byte;
 use fields::field;
 
-#[derive(Clone, Copy, PartialEq, Eq, Debug)]
+#[derive(Clone, Copy)]
 pub struct Branch {
     // the branch that it stands right under; for the top, itself
     pub parent: u8,

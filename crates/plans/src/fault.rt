@@ -3,15 +3,11 @@ ghost use mathlib.Core.Path.{_≡_};
 ghost use Rattle.plans.specs.declared.fault.PlanFault.the-variants.{Field as InField, Rows as InRows};
 ghost use Rattle.plans.specs.Refusals.{planRefusal};
 use fields::FieldFault;
-use fields::FieldFaultDebug;
-use fields::FieldFaultPartialEq;
 use orders::RowsFault;
-use orders::RowsFaultDebug;
-use orders::RowsFaultPartialEq;
 use refusals::Refusal;
 use refusals::place;
 
-#[derive(Clone, Copy, PartialEq, Eq, Debug)]
+#[derive(Clone, Copy)]
 pub enum PlanFault {
     // a field, the header or the end
     Field(FieldFault),

@@ -9,7 +9,7 @@ use fields::field;
 use fields::two;
 use orders::names_members;
 
-#[derive(Clone, Copy, PartialEq, Eq, Debug)]
+#[derive(Clone, Copy)]
 pub struct Line {
     pub governing: u8,
     pub governed: u8,

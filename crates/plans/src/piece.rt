@@ -8,7 +8,7 @@ use fields::Record;
 use fields::byte;
 use fields::field;
 
-#[derive(Clone, Copy, PartialEq, Eq, Debug)]
+#[derive(Clone, Copy)]
 pub struct Piece {
     pub kind: u8,
     pub home: u8,

@@ -9,7 +9,7 @@ ghost use Rattle.orders.specs.Parents.{parentsChecked};
 ghost use Rattle.orders.specs.Rows.{rowsChecked};
 ghost use Rattle.fields.specs.Records.{filled};
 ghost use Rattle.plans.specs.Plan.{Ordered};
-ghost use Rattle.plans.specs.Reader.{countChecked, fieldSteps, lineApart, lineIn, linesApart, offsetOf, pairApart, planAfter, planMade, planResult, planSteps, principalStands, rowsRead};
+ghost use Rattle.plans.specs.Reader.{bodySteps, countChecked, fieldSteps, lineSteps, pieceSteps, lineApart, lineIn, linesApart, offsetOf, pairApart, planAfter, planMade, planResult, planSteps, principalStands, rowsRead};
 use crate::branch::Branch;
 use crate::branch::BranchRecord;
 use crate::fault::PlanFault;
@@ -85,39 +85,54 @@ fn check_count(
     )
 }
 
-// The header, each field in the order of the format, and the end.
+// The header, the branches, the roles and the principal.
+fn check_body(bytes: &[u8], layout: Layout) -> Result<(), FieldFault>
+    ensures { λ r. ⌜ r ≡ inOrder (bodySteps (now (bytes .entry)) layout) ⌝ }
+{
+    header(bytes, LONGEST)?;
+    check_count(bytes, layout.branches, 1, 1, BRANCHES)?;
+    check_list::<Branch>(bytes, layout, layout.branches.first, layout.branches.count)?;
+    check_count(bytes, layout.roles, 1, 1, ROLES)?;
+    check_list::<Role>(bytes, layout, layout.roles.first, layout.roles.count)?;
+    field(
+        bytes,
+        layout.principal as usize,
+        1,
+        principal_stands(bytes, layout),
+    )
+}
+
+// The grant lines and the take lines.
+fn check_governing(bytes: &[u8], layout: Layout) -> Result<(), FieldFault>
+    ensures { λ r. ⌜ r ≡ inOrder (lineSteps (now (bytes .entry)) layout) ⌝ }
+{
+    check_count(bytes, layout.grants, 1, 0, LINES)?;
+    check_list::<Line>(bytes, layout, layout.grants.first, layout.grants.count)?;
+    check_count(bytes, layout.takes, 1, 0, LINES)?;
+    check_list::<Line>(bytes, layout, layout.takes.first, layout.takes.count)
+}
+
+// The sets and the pieces, and nothing behind them.
+fn check_pieces(bytes: &[u8], layout: Layout) -> Result<(), FieldFault>
+    ensures { λ r. ⌜ r ≡ inOrder (pieceSteps (now (bytes .entry)) layout) ⌝ }
+{
+    check_count(bytes, layout.sets, 1, 0, SETS)?;
+    check_list::<Set>(bytes, layout, layout.sets.first, layout.sets.count)?;
+    check_count(bytes, layout.pieces, 2, 0, PIECES)?;
+    check_list::<Piece>(bytes, layout, layout.pieces.first, layout.pieces.count)?;
+    check_end(
+        bytes,
+        offset(layout.pieces, 2, layout.pieces.count) as usize,
+    )
+}
+
+// All fields, in the order of the format.
 fn check_fields(bytes: &[u8], layout: Layout) -> Result<(), FieldFault>
     ensures { λ r. ⌜ r ≡ inOrder (fieldSteps (now (bytes .entry)) layout) ⌝ }
 {
-    let Layout {
-        branches,
-        roles,
-        principal,
-        grants,
-        takes,
-        sets,
-        pieces,
-    } = layout;
-    header(bytes, LONGEST)?;
-    check_count(bytes, branches, 1, 1, BRANCHES)?;
-    check_list::<Branch>(bytes, layout, branches.first, branches.count)?;
-    check_count(bytes, roles, 1, 1, ROLES)?;
-    check_list::<Role>(bytes, layout, roles.first, roles.count)?;
-    field(
-        bytes,
-        principal as usize,
-        1,
-        principal_stands(bytes, layout),
-    )?;
-    check_count(bytes, grants, 1, 0, LINES)?;
-    check_list::<Line>(bytes, layout, grants.first, grants.count)?;
-    check_count(bytes, takes, 1, 0, LINES)?;
-    check_list::<Line>(bytes, layout, takes.first, takes.count)?;
-    check_count(bytes, sets, 1, 0, SETS)?;
-    check_list::<Set>(bytes, layout, sets.first, sets.count)?;
-    check_count(bytes, pieces, 2, 0, PIECES)?;
-    check_list::<Piece>(bytes, layout, pieces.first, pieces.count)?;
-    check_end(bytes, offset(pieces, 2, pieces.count) as usize)
+    check_body(bytes, layout)?;
+    check_governing(bytes, layout)?;
+    check_pieces(bytes, layout)
 }
 
 // The rows of the roles are an order.

@@ -11,7 +11,7 @@ use fields::field;
 use fields::two;
 use orders::has_bit;
 
-#[derive(Clone, Copy, PartialEq, Eq, Debug)]
+#[derive(Clone, Copy)]
 pub struct Role {
     // bit i: role i is at or below this one
     pub row: u16,

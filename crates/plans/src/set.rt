@@ -9,7 +9,7 @@ use fields::field;
 use fields::two;
 use orders::names_members;
 
-#[derive(Clone, Copy, PartialEq, Eq, Debug)]
+#[derive(Clone, Copy)]
 pub struct Set {
     // bit i: role i is in the set
     pub roles: u16,
