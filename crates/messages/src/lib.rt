@@ -1,0 +1,36 @@
+// Messages: what they say, how they are read from bytes, and how they are written.
+mod arguments;
+mod call;
+mod fault;
+mod limits;
+mod message;
+mod numbers;
+mod post;
+mod reader;
+mod sitting;
+mod writer;
+
+pub use call::Call;
+pub use call::CallDebug;
+pub use call::CallPartialEq;
+pub use fault::MessageFault;
+pub use fault::MessageFaultDebug;
+pub use fault::MessageFaultPartialEq;
+pub use fault::MessageFromField;
+pub use limits::BRANCHES;
+pub use limits::KINDS;
+pub use limits::OPERATIONS;
+pub use limits::PERSONS;
+pub use limits::PIECES;
+pub use limits::POSTS;
+pub use limits::ROLES;
+pub use message::Message;
+pub use message::blank;
+pub use post::Post;
+pub use post::PostDebug;
+pub use post::PostPartialEq;
+pub use post::PostRecord;
+pub use reader::check;
+pub use reader::read;
+pub use sitting::Sitting;
+pub use writer::write;
