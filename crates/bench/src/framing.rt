@@ -4,10 +4,8 @@ ghost use Prim.Native.Nat.{_≤_};
 ghost use Rattle.bench.specs.Framing.{bodyWanted, endsRun};
 use fields::FieldFault;
 use fields::two;
+use messages::BODY;
 use messages::MessageFault;
-
-// The longest body of a message.
-const BODY: u16 = 14;
 
 // How many bytes of the body to read behind these three: what the length says, but no more than a message may have.
 pub(crate) fn wanted(header: &[u8]) -> usize

@@ -11,6 +11,7 @@ use framing::wanted;
 use lines::LINE;
 use lines::Word;
 use lines::write;
+use messages::MESSAGE;
 use messages::Message;
 use plans::Plan;
 use refusals::Refusal;
@@ -22,9 +23,6 @@ use std::io::BufReader;
 use std::io::BufWriter;
 use std::io::Read;
 use std::io::Write;
-
-// The bytes of the longest message.
-const LONGEST: usize = 17;
 
 // The bytes before a message's body.
 const HEADER: usize = 3;
@@ -58,7 +56,7 @@ fn read_up_to<R: Read>(input: &mut R, memory: &mut [u8]) -> io::Result<usize>
 }
 
 // Reads the bytes of the next message, as many as there are of it, and says how many.
-fn next_message<R: Read>(input: &mut R, memory: &mut [u8; LONGEST]) -> io::Result<usize>
+fn next_message<R: Read>(input: &mut R, memory: &mut [u8; MESSAGE]) -> io::Result<usize>
     ensures { λ r. ⌜ made r (λ held. held ≤ 17) ⌝ }
 {
     let header = read_up_to(input, &mut memory[0..HEADER])?;
@@ -86,7 +84,7 @@ fn take_message<W: Write>(bytes: &[u8], message: &mut Message, out: &mut W) -> i
 
 // Goes through the messages until the input ends or one of them says no more where the next begins.
 fn take_messages<R: Read, W: Write>(input: &mut R, out: &mut W) -> io::Result<()> {
-    let mut memory = [0; LONGEST];
+    let mut memory = [0; MESSAGE];
     let mut message = messages::blank();
     for _ in 0..u64::MAX {
         let held = next_message(input, &mut memory)?;

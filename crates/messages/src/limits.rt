@@ -1,29 +1,18 @@
-// The fixed limits: every number that a message says is below its limit.
-pub const PERSONS: u8 = 64;
-
-pub const ROLES: u8 = 16;
-
-pub const BRANCHES: u8 = 64;
-
-pub const OPERATIONS: u8 = 8;
-
-pub const KINDS: u8 = 16;
-
-pub const PIECES: u16 = 1024;
+// The numbers of the message format.
 
 // The most posts of a sitting.
 pub const POSTS: usize = 4;
+
+// The most bytes of a message's body, and of a whole message.
+pub const BODY: u16 = 14;
+
+pub const MESSAGE: usize = 17;
 
 // The version of the format.
 pub(crate) const VERSION: u8 = 1;
 
 // How many calls there are, numbered from 1.
 pub(crate) const CALLS: u8 = 11;
-
-// The most bytes of a message's body, and of a whole message.
-pub(crate) const BODY: u16 = 14;
-
-pub(crate) const MESSAGE: usize = 17;
 
 // The offsets of the fields that stand in every message.
 pub(crate) const CALL_AT: usize = 3;

@@ -1,13 +1,13 @@
 // The check of each kind of number that a message says: its field fits, and it is below its limit.
 ghost use mathlib.Core.Path.{_≡_};
 ghost use Rattle.messages.specs.Numbers.{within as isWithin, personChecked, roleChecked, branchChecked, operationChecked, kindChecked, pieceChecked};
-use crate::limits::BRANCHES;
-use crate::limits::KINDS;
-use crate::limits::OPERATIONS;
-use crate::limits::PERSONS;
-use crate::limits::PIECES;
-use crate::limits::ROLES;
+use fields::BRANCHES;
 use fields::FieldFault;
+use fields::OPERATIONS;
+use fields::PERSONS;
+use fields::PIECE_KINDS;
+use fields::PIECES;
+use fields::ROLES;
 use fields::byte;
 use fields::field;
 use fields::two;
@@ -30,14 +30,14 @@ pub(crate) fn check_person(bytes: &[u8], at: usize) -> Result<(), FieldFault>
 pub(crate) fn check_role(bytes: &[u8], at: usize) -> Result<(), FieldFault>
     ensures { λ r. ⌜ r ≡ roleChecked (now (bytes .entry)) at ⌝ }
 {
-    field(bytes, at, 1, byte(bytes, at) < ROLES)
+    field(bytes, at, 1, (byte(bytes, at) as usize) < ROLES)
 }
 
 // A branch stands at the offset.
 pub(crate) fn check_branch(bytes: &[u8], at: usize) -> Result<(), FieldFault>
     ensures { λ r. ⌜ r ≡ branchChecked (now (bytes .entry)) at ⌝ }
 {
-    field(bytes, at, 1, byte(bytes, at) < BRANCHES)
+    field(bytes, at, 1, (byte(bytes, at) as usize) < BRANCHES)
 }
 
 // An operation stands at the offset.
@@ -51,12 +51,12 @@ pub(crate) fn check_operation(bytes: &[u8], at: usize) -> Result<(), FieldFault>
 pub(crate) fn check_kind(bytes: &[u8], at: usize) -> Result<(), FieldFault>
     ensures { λ r. ⌜ r ≡ kindChecked (now (bytes .entry)) at ⌝ }
 {
-    field(bytes, at, 1, byte(bytes, at) < KINDS)
+    field(bytes, at, 1, byte(bytes, at) < PIECE_KINDS)
 }
 
 // A piece stands in the two bytes at the offset.
 pub(crate) fn check_piece(bytes: &[u8], at: usize) -> Result<(), FieldFault>
     ensures { λ r. ⌜ r ≡ pieceChecked (now (bytes .entry)) at ⌝ }
 {
-    field(bytes, at, 2, two(bytes, at) < PIECES)
+    field(bytes, at, 2, (two(bytes, at) as usize) < PIECES)
 }

@@ -40,7 +40,7 @@ fn list(bytes: &[u8], at: u16) -> Span
 }
 
 // Finds the lists from the counts alone; whether they fit, and whether the counts are allowed, is for the checks to say.
-pub fn lay_out(bytes: &[u8]) -> Layout
+pub(crate) fn lay_out(bytes: &[u8]) -> Layout
     ensures { λ r. ⌜ r ≡ layoutOf (now (bytes .entry)) ⌝ }
 {
     let branches = list(bytes, 3);

@@ -16,7 +16,6 @@ pub use fault::PlanFromField;
 pub use fault::PlanFromRows;
 pub use layout::Layout;
 pub use layout::Span;
-pub use layout::lay_out;
 pub use line::Line;
 pub use line::LineRecord;
 pub use piece::Piece;
