@@ -4,7 +4,7 @@ ghost use Rattle.fields.specs.Refusals.{fieldRefusal};
 use refusals::Refusal;
 use refusals::place;
 
-#[derive(Clone, Copy, PartialEq, Eq, Debug)]
+#[derive(Clone, Copy)]
 pub enum FieldFault {
     // the version is not 1
     Version,

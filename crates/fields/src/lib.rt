@@ -11,8 +11,6 @@ pub use checks::check_end;
 pub use checks::field;
 pub use checks::header;
 pub use fault::FieldFault;
-pub use fault::FieldFaultDebug;
-pub use fault::FieldFaultPartialEq;
 pub use limits::BRANCH_KINDS;
 pub use limits::BRANCHES;
 pub use limits::LINES;

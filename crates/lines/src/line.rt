@@ -49,16 +49,3 @@ pub fn write(word: Word, first: u16, second: u16, third: u16, line: &mut [u8; LI
     let after_third = lay_number(line, after_second, third);
     lay(line, after_third, b"\n")
 }
-
-#[cfg(test)]
-mod tests {
-    use super::*;
-    use std::test::*;
-
-    #[test]
-    fn writes_the_line() -> Result<(), Fail> {
-        let mut line = [0; LINE];
-        check(write(Word::Throughout, 0, 1, 0, &mut line) == 17)?;
-        check(line[13] == b'1' && line[16] == b'\n' && line[17] == 0)
-    }
-}

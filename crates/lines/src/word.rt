@@ -3,7 +3,7 @@
 ghost use Rattle.lines.specs.Word.{spelled};
 ghost use mathlib.Core.Path.{_≡_};
 
-#[derive(Clone, Copy, PartialEq, Eq, Debug)]
+#[derive(Clone, Copy)]
 pub enum Word {
     Decide,
     Grant,

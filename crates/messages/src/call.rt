@@ -3,7 +3,7 @@ ghost use mathlib.Core.Path.{_≡_};
 ghost use Rattle.messages.specs.Calls.{numberOf, wordOf};
 use lines::Word;
 
-#[derive(Clone, Copy, PartialEq, Eq, Debug)]
+#[derive(Clone, Copy)]
 pub enum Call {
     Decide { operation: u8, piece: u16 },
     Grant { person: u8, role: u8, branch: u8 },

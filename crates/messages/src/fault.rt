@@ -3,11 +3,9 @@ ghost use mathlib.Core.Path.{_≡_};
 ghost use Rattle.messages.specs.Refusals.{messageRefusal};
 ghost use Rattle.messages.specs.declared.fault.MessageFault.the-variants.{Field};
 use fields::FieldFault;
-use fields::FieldFaultDebug;
-use fields::FieldFaultPartialEq;
 use refusals::Refusal;
 
-#[derive(Clone, Copy, PartialEq, Eq, Debug)]
+#[derive(Clone, Copy)]
 pub enum MessageFault {
     // a field is wrong
     Field(FieldFault),

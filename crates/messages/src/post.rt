@@ -9,7 +9,7 @@ use fields::Record;
 use fields::byte;
 
 // A role at a branch.
-#[derive(Clone, Copy, PartialEq, Eq, Debug)]
+#[derive(Clone, Copy, PartialEq, Eq)]
 pub struct Post {
     pub role: u8,
     pub branch: u8,

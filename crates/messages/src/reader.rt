@@ -111,33 +111,3 @@ pub fn read(bytes: &[u8], into: &mut Message) -> Result<(), MessageFault>
     };
     Ok(())
 }
-
-#[cfg(test)]
-mod tests {
-    use super::*;
-    use crate::fault::MessageFaultDebug;
-    use crate::message::blank;
-    use refusals::Refusal;
-    use refusals::RefusalDebug;
-    use refusals::RefusalPartialEq;
-    use std::test::Fail;
-    use std::test::check_eq;
-
-    #[test]
-    fn persons_end_at_63() -> Result<(), Fail> {
-        let mut message = blank();
-        read(&[1, 0, 5, 11, 63, 1, 3, 9], &mut message)?;
-        check_eq(message.sitting.person, 63)?;
-        match read(&[1, 0, 5, 11, 64, 1, 3, 9], &mut message) {
-            Ok(()) => Err(Fail::new("person 64 was read")),
-            Err(fault) => check_eq(
-                fault.refusal(),
-                Refusal {
-                    number: 4,
-                    layer: 1,
-                    place: 4,
-                },
-            ),
-        }
-    }
-}

@@ -3,8 +3,6 @@ mod masks;
 mod order;
 mod parents;
 mod rows;
-#[cfg(test)]
-mod tests;
 
 pub use masks::has_bit;
 pub use masks::names_members;
@@ -12,12 +10,8 @@ pub use order::Order;
 pub use parents::MOST_PARENTS;
 pub use parents::Parents;
 pub use parents::ParentsFault;
-pub use parents::ParentsFaultDebug;
-pub use parents::ParentsFaultPartialEq;
 pub use parents::ParentsOrder;
 pub use rows::MOST_ROWS;
 pub use rows::Rows;
 pub use rows::RowsFault;
-pub use rows::RowsFaultDebug;
-pub use rows::RowsFaultPartialEq;
 pub use rows::RowsOrder;

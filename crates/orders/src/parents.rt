@@ -22,7 +22,7 @@ pub struct Parents {
 }
 
 // Why parents make no order.
-#[derive(Clone, Copy, PartialEq, Eq, Debug)]
+#[derive(Clone, Copy)]
 pub enum ParentsFault {
     // more members than an order by parents has
     TooMany,

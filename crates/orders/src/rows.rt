@@ -23,7 +23,7 @@ pub struct Rows {
 }
 
 // Why rows make no order.
-#[derive(Clone, Copy, PartialEq, Eq, Debug)]
+#[derive(Clone, Copy)]
 pub enum RowsFault {
     // more members than a row has bits
     TooMany,

@@ -1,0 +1,9 @@
+// Small examples of each crate, proved and run. They stand apart, since a crate with tests is proved twice.
+#[cfg(test)]
+mod line_examples;
+#[cfg(test)]
+mod message_examples;
+#[cfg(test)]
+mod order_examples;
+#[cfg(test)]
+mod plan_examples;
