@@ -1,24 +1,24 @@
 -- What is known of bytes that the reader accepts.
-use mathlib.Core.Path.{_≡_, refl, sym, ap, _∙_, subst}
-use mathlib.Core.Bool.{Bool, true, false, not, cond, _&&_}
+use mathlib.Core.Path.{_≡_, refl, _∙_}
+use mathlib.Core.Bool.{Bool, true, not, cond, _&&_}
 use mathlib.Core.List.{List, [], _∷_, _++_}
 use Prim.Native.Nat.{ℕ, _+_, _*_, _-_, _<_, _≤_}
 use native.Mathlib.Omega.{arith}
-use lib.Dec.{leb, ltb, eqb}
+use lib.Dec.{leb, ltb}
 use lib.ListN.{length, getD}
 use Rattle.std.specs.declared.result.Result.{Result}
 use Rattle.std.specs.declared.result.Result.the-variants.{Ok, Err}
 use Rattle.std.proofs.shelf.Counted.{getD-map-counting}
-use Rattle.std.proofs.shelf.Tests.{and-parts, leb-true, eqb-true, not-true, lt-ltb, cond-true}
-use Rattle.refusals.specs.Checks.{must, inOrder, every}
+use Rattle.std.proofs.shelf.Tests.{and-parts, leb-true, ltb-true, not-true, lt-ltb, cond-true}
+use Rattle.refusals.specs.Checks.{must, inOrder}
 use Rattle.refusals.proofs.Rows.{Passed, all-passed, every-at, must-true}
-use Rattle.fields.specs.Bytes.{byteAt, twoAt}
+use Rattle.fields.specs.Bytes.{byteAt}
 use Rattle.fields.specs.Fields.{fieldChecked}
 use Rattle.fields.specs.Records.{filled}
 use Rattle.fields.specs.declared.fault.FieldFault.{FieldFault}
 use Rattle.fields.specs.declared.fault.FieldFault.the-variants.{Misfit, Value}
-use Rattle.messages.specs.Numbers.{within}
-use Rattle.messages.specs.Posts.{noPost, samePost, Apart}
+use Rattle.messages.specs.Numbers.{within, roleChecked, branchChecked}
+use Rattle.messages.specs.Posts.{noPost, postChecked, samePost, Apart}
 use Rattle.messages.specs.Said.{postIn}
 use Rattle.messages.specs.Reading.{fieldSteps, lifted, newChecked, apartChecked, messageSteps, messageResult}
 use Rattle.messages.specs.declared.fault.MessageFault.the-variants.{Twice}
@@ -63,6 +63,17 @@ within-bounds lower n upper e =
 -- one to four posts
 pub count-bounds : (b : List ℕ) → messageResult b ≡ Ok tt → (1 ≤ byteAt b 5) × (byteAt b 5 ≤ 4)
 count-bounds b e = within-bounds 1 (byteAt b 5) 4 (field-holds b 5 1 _ (fields-passed b e .1 .1 .1 .0))
+
+-- the person is below the limit, and so are the role and the branch of each post
+pub person-below : (b : List ℕ) → messageResult b ≡ Ok tt → byteAt b 4 < 64
+person-below b e = ltb-true (byteAt b 4) 64 (field-holds b 4 1 _ (fields-passed b e .1 .1 .0))
+
+pub post-below : (b : List ℕ) (k : ℕ) → messageResult b ≡ Ok tt → k < byteAt b 5 → (postIn b k .role < 16) × (postIn b k .branch < 64)
+post-below b k e h =
+    let at = 6 + 2 * k in
+    let passed = every-at (λ k. postChecked b (6 + 2 * k)) (byteAt b 5) k h (fields-passed b e .1 .1 .1 .1 .0) in
+    let both = all-passed (roleChecked b at ∷ branchChecked b (at + 1) ∷ []) passed in
+    (ltb-true (byteAt b at) 16 (field-holds b at 1 _ (both .0)), ltb-true (byteAt b (at + 1)) 64 (field-holds b (at + 1) 1 _ (both .1 .0)))
 
 -- the records of an array stand in its first places
 pub filled-at : {T : Type 0} (size count : ℕ) (empty : T) (f : ℕ → T) (k : ℕ) (d : T) → k < count → count ≤ size → getD (filled size count empty f) k d ≡ f k

@@ -1,14 +1,14 @@
 -- What is written is read back: the bytes of a message say what the message says.
 use mathlib.Core.Path.{_≡_, refl, sym, ap, _∙_}
 use mathlib.Core.List.{List, [], _∷_, _++_, map}
-use Prim.Native.Nat.{ℕ, zero, suc, _+_, _*_, _/_, _%_, _<_, _≤_}
+use Prim.Native.Nat.{ℕ, zero, suc, _+_, _*_, _/_, _%_, _<_}
 use native.Mathlib.Omega.{arith}
 use lib.ListN.{length, getD}
 use Rattle.std.specs.Iters.{counting}
 use Rattle.std.specs.Joined.{joined}
 use Rattle.std.proofs.shelf.Counted.{fill-by-all}
 use Rattle.std.proofs.shelf.Lists.{getD-at, getD-append-add}
-use Rattle.fields.specs.Bytes.{byteAt, twoAt}
+use Rattle.fields.specs.Bytes.{byteAt}
 use Rattle.messages.specs.Arguments.{argumentsOf, callAt}
 use Rattle.messages.specs.Calls.{numberOf}
 use Rattle.messages.specs.Posts.{noPost, postAt, postBytes}

@@ -1,12 +1,12 @@
 -- What is read is written back: the bytes that the reader accepts are the bytes of what they say.
-use mathlib.Core.Path.{_≡_, refl, sym, ap, _∙_, subst}
+use mathlib.Core.Path.{_≡_, refl, sym, ap, _∙_}
 use mathlib.Core.Bool.{Bool, cond, _&&_}
 use mathlib.Core.List.{List, [], _∷_, _++_, map, append-assoc}
 use Prim.Native.Nat.{ℕ, zero, suc, _+_, _*_, _-_, _/_, _%_, _<_, _≤_}
 use native.Mathlib.Numerals.{add-one}
 use native.Mathlib.Omega.{arith}
 use lib.Dec.{eqb, leb, ltb}
-use lib.ListN.{length, getD, take, drop, length-drop}
+use lib.ListN.{length, take, drop, length-drop}
 use Rattle.std.specs.Iters.{counting}
 use Rattle.std.specs.Joined.{joined}
 use Rattle.std.specs.declared.result.Result.{Result}
@@ -15,7 +15,7 @@ use Rattle.std.proofs.shelf.Counted.{map-counting-more, length-map-counting, fi
 use Rattle.std.proofs.shelf.Lists.{drop-more, drop-all, joined-more, length-take-le, getD-take}
 use Rattle.std.proofs.shelf.Tests.{and-parts, leb-true, eqb-true}
 use Rattle.refusals.specs.Checks.{must, inOrder}
-use Rattle.refusals.proofs.Rows.{Passed, all-passed, every-at, must-true}
+use Rattle.refusals.proofs.Rows.{all-passed, every-at, must-true}
 use Rattle.fields.specs.Bytes.{byteAt, twoAt}
 use Rattle.fields.specs.Fields.{headerChecked, fieldChecked}
 use Rattle.fields.specs.Records.{filled}
@@ -24,7 +24,7 @@ use Rattle.fields.specs.declared.fault.FieldFault.the-variants.{Version, Length
 use Rattle.messages.specs.Arguments.{argumentsChecked, argumentsOf, argumentsWidth, callAt}
 use Rattle.messages.specs.Calls.{numberOf}
 use Rattle.messages.specs.Numbers.{personChecked, roleChecked, branchChecked, operationChecked, kindChecked, pieceChecked}
-use Rattle.messages.specs.Posts.{noPost, postAt, postBytes, postChecked}
+use Rattle.messages.specs.Posts.{noPost, postBytes, postChecked}
 use Rattle.messages.specs.Said.{Said, bodyOf, postIn, said, saidIn, written}
 use Rattle.messages.specs.Reading.{messageResult, Reads}
 use Rattle.messages.specs.declared.call.Call.{Call}

@@ -1,9 +1,8 @@
 -- What the writer says, and what it leaves in the memory.
 use mathlib.Core.Bool.{cond}
-use mathlib.Core.List.{List, _++_}
 use Prim.Native.Nat.{ℕ}
 use lib.Dec.{ltb}
-use lib.ListN.{length, drop}
+use lib.ListN.{length}
 use Rattle.std.specs.declared.result.Result.{Result}
 use Rattle.std.specs.declared.result.Result.the-variants.{Ok, Err}
 use Rattle.fields.specs.declared.fault.FieldFault.the-variants.{Length}

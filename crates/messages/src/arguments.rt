@@ -1,7 +1,5 @@
 // The arguments of a call as they stand in bytes, behind the posts.
 ghost use mathlib.Core.Path.{_≡_};
-ghost use Prim.Native.Nat.{_/_, _%_, _+_};
-ghost use Rattle.fields.specs.Bytes.{byteAt, twoAt};
 ghost use Rattle.messages.specs.Arguments.{argumentsChecked, argumentsWidth, callAt};
 use crate::call::Call;
 use crate::numbers::check_branch;

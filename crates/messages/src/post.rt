@@ -1,5 +1,4 @@
 // A post, and how it stands in bytes.
-ghost use mathlib.Core.Path.{_≡_};
 ghost use Rattle.messages.specs.Posts.{noPost, postAt, postChecked};
 use crate::limits::POST;
 use crate::numbers::check_branch;

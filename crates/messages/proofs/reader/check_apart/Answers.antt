@@ -1,3 +1,4 @@
+-- Each post that passes lets the loop go on, and the first that does not ends it.
 use mathlib.Core.Path.{sym}
 use native.Mathlib.Omega.{arith}
 use Rattle.std.proofs.shelf.Results.{err-from-errBy}

@@ -1,3 +1,4 @@
+-- Each earlier post that differs lets the loop go on, and the first that does not ends it.
 use mathlib.Core.Path.{sym, ap, _∙_}
 use mathlib.Core.Bool.{not}
 use native.Mathlib.Omega.{arith}
