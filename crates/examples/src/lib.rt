@@ -1,5 +1,7 @@
 // Small examples of each crate, proved and run. They stand apart, since a crate with tests is proved twice.
 #[cfg(test)]
+mod draft_examples;
+#[cfg(test)]
 mod line_examples;
 #[cfg(test)]
 mod message_examples;

@@ -17,13 +17,13 @@ pub(crate) const CALLS: u8 = 11;
 // The offsets of the fields that stand in every message.
 pub(crate) const CALL_AT: usize = 3;
 
-pub(crate) const PERSON_AT: usize = 4;
+pub const PERSON_AT: usize = 4;
 
-pub(crate) const COUNT_AT: usize = 5;
+pub const COUNT_AT: usize = 5;
 
-pub(crate) const POSTS_AT: u16 = 6;
+pub const POSTS_AT: u16 = 6;
 
 // The bytes of a body before its posts, and of each post.
 pub(crate) const LEAD: u8 = 3;
 
-pub(crate) const POST: u8 = 2;
+pub const POST: u8 = 2;

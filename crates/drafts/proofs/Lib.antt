@@ -1,0 +1,6 @@
+-- Lemmas that the proofs share.
+mod Apart
+mod Arguments
+mod Grown
+mod Reader
+mod Room
