@@ -1,1 +1,2 @@
+-- What the contracts speak of.
 pub mod Framing

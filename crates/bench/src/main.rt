@@ -95,9 +95,20 @@ fn take_messages<R: Read, W: Write>(input: &mut R, out: &mut W) -> io::Result<()
     Ok(())
 }
 
+// The bytes of the plan file; where it cannot be read, that is said on standard error.
+fn plan_file(rt: &LibcRuntime) -> io::Result<Vec<u8>> {
+    match fs::read(rt, "plan.bin") {
+        Ok(bytes) => Ok(bytes),
+        Err(fault) => {
+            eprintln!(rt, "bench: plan.bin cannot be read")?;
+            Err(fault)
+        }
+    }
+}
+
 // The whole run.
 fn run(rt: &LibcRuntime) -> io::Result<()> {
-    let bytes = fs::read(rt, "plan.bin")?;
+    let bytes = plan_file(rt)?;
     let mut out = BufWriter::new(rt.stdout());
     let mut plan = Plan::empty();
     match plans::read(&bytes, &mut plan) {

@@ -1,6 +1,6 @@
 // Numbers in bytes. A read past the end gives 0: whether a field fits is a check of its own.
 ghost use mathlib.Core.Path.{_≡_};
-ghost use Prim.Native.Nat.{ℕ, _<_};
+ghost use Prim.Native.Nat.{_<_};
 ghost use Rattle.fields.specs.Bytes.{byteAt, twoAt};
 
 // The byte at the offset.

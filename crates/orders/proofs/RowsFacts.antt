@@ -12,7 +12,7 @@ use lib.Pow.{pow-mono}
 use Rattle.std.proofs.shelf.Tests.{and-from, and-parts, both-ways, eqb-true, false≢true, lt-ltb, ltb-true, not-true, or-cases}
 use Rattle.std.specs.Results.{isOk}
 use Rattle.refusals.proofs.Rows.{all-at, every-at, must-true}
-use Rattle.refusals.specs.Checks.{all, every}
+use Rattle.refusals.specs.Checks.{every}
 use Rattle.orders.specs.Masks.{bitOfMember, hasBit, namesMembers}
 use Rattle.orders.specs.Rows.{bitCovered, covers, rowAbove, rowCheck, rowStands, rowsChecked, standsOver, standsOverAll}
 use Rattle.orders.specs.declared.rows.RowsFault.the-variants.{TooMany, Row}

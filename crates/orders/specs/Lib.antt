@@ -1,3 +1,4 @@
+-- What the contracts speak of: masks, and the two orders.
 pub mod Masks
 pub mod Parents
 pub mod Rows

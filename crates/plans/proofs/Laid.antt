@@ -1,7 +1,7 @@
 -- Lists found one behind the other are the lists of the layout.
 use mathlib.Core.Path.{_≡_, ap, _∙_}
 use mathlib.Core.List.{List}
-use Prim.Native.Nat.{ℕ, _+_, _*_}
+use Prim.Native.Nat.{ℕ, _+_}
 use Rattle.fields.specs.Bytes.{twoAt}
 use Rattle.plans.specs.declared.layout.Span.{Span}
 use Rattle.plans.specs.declared.layout.Layout.{Layout}

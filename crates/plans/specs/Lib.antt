@@ -1,3 +1,4 @@
+-- What the contracts speak of: the records, where they stand in the bytes, and what the reader says and leaves.
 pub mod Layout
 pub mod Branch
 pub mod Role

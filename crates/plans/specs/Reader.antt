@@ -5,14 +5,13 @@ use Prim.Native.Nat.{ℕ, _+_, _*_}
 use lib.Dec.{leb, ltb}
 use Rattle.std.specs.declared.result.Result.{Result}
 use Rattle.std.specs.declared.result.Result.the-variants.{Ok, Err}
-use Rattle.refusals.specs.Checks.{must, then, inOrder, every}
+use Rattle.refusals.specs.Checks.{must, inOrder, every}
 use Rattle.fields.specs.Bytes.{byteAt, twoAt}
 use Rattle.fields.specs.Fields.{headerChecked, fieldChecked, endChecked}
 use Rattle.fields.specs.Records.{filled}
 use Rattle.fields.specs.declared.fault.FieldFault.{FieldFault}
 use Rattle.orders.specs.Rows.{rowsChecked}
 use Rattle.orders.specs.declared.rows.RowsFault.{RowsFault}
-use Rattle.plans.specs.declared.branch.Branch.{Branch}
 use Rattle.plans.specs.declared.role.Role.{Role}
 use Rattle.plans.specs.declared.line.Line.{Line}
 use Rattle.plans.specs.declared.layout.Span.{Span}

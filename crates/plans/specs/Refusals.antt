@@ -2,7 +2,6 @@
 use Rattle.refusals.specs.Place.{placeOf}
 use Rattle.refusals.specs.declared.refusal.Refusal.{Refusal}
 use Rattle.fields.specs.Refusals.{fieldRefusal}
-use Rattle.orders.specs.declared.rows.RowsFault.{RowsFault}
 use Rattle.orders.specs.declared.rows.RowsFault.the-variants.{TooMany, Row}
 use Rattle.plans.specs.declared.fault.PlanFault.{PlanFault}
 use Rattle.plans.specs.declared.fault.PlanFault.the-variants.{Field, Rows, Repeated}

@@ -1,5 +1,5 @@
 -- A set in the bytes of a plan: mask of roles, bound.
-use mathlib.Core.Bool.{Bool, _&&_}
+use mathlib.Core.Bool.{_&&_}
 use mathlib.Core.List.{List, [], _∷_}
 use Prim.Native.Nat.{ℕ, _+_}
 use lib.Count.{ones}

@@ -1,5 +1,4 @@
 // A piece: a drill or a recording, with its kind and its home branch.
-ghost use mathlib.Core.Path.{_≡_};
 ghost use Rattle.plans.specs.Piece.{pieceChecked, pieceAt, noPiece};
 use crate::layout::Layout;
 use fields::FieldFault;

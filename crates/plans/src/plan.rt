@@ -1,6 +1,5 @@
 // The plan: fixed arrays of records, each with its count.
 ghost use mathlib.Core.Path.{_≡_};
-ghost use mathlib.Core.List.{map};
 ghost use Rattle.std.specs.Vec.{made};
 ghost use Rattle.refusals.specs.Checks.{verdict};
 ghost use Rattle.orders.specs.Parents.{parentsChecked};

@@ -1,13 +1,9 @@
 // The reader of plan files: every check in the order of the format, and only then the plan.
 ghost use mathlib.Core.Path.{_≡_};
-ghost use Prim.Native.Nat.{ℕ, _+_, _*_};
-ghost use lib.ListN.{getD};
+ghost use Prim.Native.Nat.{_+_, _*_};
 ghost use Rattle.std.specs.Vec.{made};
 ghost use Rattle.std.specs.declared.result.Result.the-variants.{Ok};
 ghost use Rattle.refusals.specs.Checks.{inOrder};
-ghost use Rattle.orders.specs.Parents.{parentsChecked};
-ghost use Rattle.orders.specs.Rows.{rowsChecked};
-ghost use Rattle.fields.specs.Records.{filled};
 ghost use Rattle.plans.specs.Plan.{Ordered};
 ghost use Rattle.plans.specs.Reader.{bodySteps, countChecked, fieldSteps, lineSteps, pieceSteps, lineApart, lineIn, linesApart, offsetOf, pairApart, planAfter, planMade, planResult, planSteps, principalStands, rowsRead};
 use crate::branch::Branch;

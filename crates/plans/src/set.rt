@@ -1,5 +1,4 @@
 // A set of roles of which one person may have only so many at one branch.
-ghost use mathlib.Core.Path.{_≡_};
 ghost use Rattle.plans.specs.Set.{setChecked, setAt, noSet};
 use crate::layout::Layout;
 use fields::FieldFault;

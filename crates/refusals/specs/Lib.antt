@@ -1,2 +1,3 @@
+-- What the contracts speak of: checks, and the place that a refusal tells.
 pub mod Checks
 pub mod Place

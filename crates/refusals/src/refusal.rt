@@ -1,6 +1,5 @@
 // A refusal as it is told: three numbers.
 ghost use mathlib.Core.Path.{_≡_};
-ghost use Prim.Native.Nat.{ℕ};
 ghost use Rattle.refusals.specs.Place.{placeOf};
 
 // The number of the refusal, the layer that refuses, and the place, whose meaning goes with the number.

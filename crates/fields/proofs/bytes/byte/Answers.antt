@@ -1,3 +1,4 @@
+-- Past the end the byte is 0.
 use mathlib.Core.Path.{sym}
 use native.Mathlib.Omega.{arith}
 use Rattle.std.proofs.shelf.Lists.{getD-past}

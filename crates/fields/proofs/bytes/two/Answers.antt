@@ -1,3 +1,4 @@
+-- Past the end both bytes are 0.
 use mathlib.Core.Path.{_≡_}
 use Prim.Native.Nat.{_+_}
 use lib.ListN.{getD}

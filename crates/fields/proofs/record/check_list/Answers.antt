@@ -1,3 +1,4 @@
+-- A loop through the records, left at the first that is refused.
 use mathlib.Core.Path.{sym, ap, _∙_}
 use Prim.Native.Nat.{_+_, _*_}
 use native.Mathlib.Omega.{arith}

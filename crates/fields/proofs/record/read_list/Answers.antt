@@ -1,3 +1,4 @@
+-- The array is filled place by place.
 use lib.ListN.{length-replicate}
 use native.Mathlib.Omega.{arith}
 use Rattle.std.proofs.shelf.Counted.{fill-by-all}

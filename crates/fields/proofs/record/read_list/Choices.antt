@@ -5,6 +5,7 @@ use lib.Dec.{ltb}
 use lib.ListN.{length, getD}
 use Rattle.fields.proofs.record.read_list.Given as given
 
+-- the places so far hold their records
 abbrev pub Inv-loop-number : given.InvT-loop-number
 Inv-loop-number g l =
     (length (l .all) ≡ g .N)

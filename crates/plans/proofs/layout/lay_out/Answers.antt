@@ -1,4 +1,4 @@
-use mathlib.Core.Path.{refl}
+-- The lists are found one behind the other.
 use Rattle.plans.proofs.Laid.{laid}
 use Rattle.plans.proofs.layout.lay_out.Needs as need
 

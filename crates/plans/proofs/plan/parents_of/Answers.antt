@@ -1,3 +1,4 @@
+-- The array has at each place the parent of the branch there.
 use mathlib.Core.Path.{_≡_}
 use lib.ListN.{length}
 use native.Mathlib.Omega.{arith}

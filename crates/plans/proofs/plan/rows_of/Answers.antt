@@ -1,3 +1,4 @@
+-- The array has at each place the row of the role there.
 use mathlib.Core.Path.{_≡_}
 use lib.ListN.{length}
 use native.Mathlib.Omega.{arith}

@@ -1,3 +1,4 @@
+-- A loop through the earlier lines, left at the first with the same pair.
 use mathlib.Core.Path.{sym}
 use native.Mathlib.Omega.{arith}
 use Rattle.std.proofs.shelf.Results.{err-from-errBy}

@@ -1,3 +1,4 @@
+-- A loop through the lines, left at the first that repeats a pair.
 use mathlib.Core.Path.{sym}
 use native.Mathlib.Omega.{arith}
 use Rattle.std.proofs.shelf.Results.{err-from-errBy}

@@ -1,3 +1,4 @@
+-- Each part of the plan is what its reader gives.
 use Rattle.plans.specs.Reader.{planMade}
 use Rattle.plans.proofs.Filled.{same-plan}
 use Rattle.plans.proofs.reader.fill.Needs as need

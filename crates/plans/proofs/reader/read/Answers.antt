@@ -1,7 +1,7 @@
-use mathlib.Core.Path.{_≡_, refl, sym, ap, subst, _∙_}
+-- The checks are those of the layout of the bytes, and what is filled in is the plan of that layout.
+use mathlib.Core.Path.{refl, sym, ap, subst, _∙_}
 use Rattle.std.proofs.shelf.Results.{err-from-errBy}
 use Rattle.refusals.specs.Checks.{inOrder}
-use Rattle.plans.specs.Layout.{layoutOf}
 use Rattle.plans.specs.Plan.{Ordered}
 use Rattle.plans.specs.Reader.{planSteps, planResult, planMade}
 use Rattle.plans.proofs.PlanOrders.{read-orders}

@@ -1,3 +1,4 @@
+-- Each part of the empty plan is the blank record, repeated.
 use mathlib.Core.Path.{refl, ap}
 use lib.ListN.{replicate}
 use Rattle.plans.specs.Plan.{emptyPlan}
