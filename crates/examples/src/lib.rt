@@ -1,4 +1,5 @@
-// Small examples of each crate, proved and run. They stand apart, since a crate with tests is proved twice.
+// Small examples of orders, lines, plans, messages and drafts, proved and run.
+// They stand apart, since a crate with tests is proved twice.
 #[cfg(test)]
 mod draft_examples;
 #[cfg(test)]
