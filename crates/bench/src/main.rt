@@ -1,4 +1,6 @@
 // Reads a plan and an evening's messages, and prints what it reads: see docs/FORMATS.md, "What bench reads and prints".
+#![tactic(auto)]
+
 ghost use Rattle.std.specs.Prelude.{◌≤◌, length, IfOk};
 
 mod framing;

@@ -2,6 +2,8 @@
 //
 // A case is a line with the word `plan` or `message` and the bytes in hexadecimal, in groups of any size; `00*300` stands for three
 // hundred bytes 00. A line that begins with # is printed as it is.
+#![tactic(auto)]
+
 mod hexadecimal;
 
 use anyhow::{Context, anyhow};

@@ -1,5 +1,7 @@
 // Small examples of orders, lines, plans, messages, drafts and registers, proved and run.
 // They stand apart, since a crate with tests is proved twice.
+#![tactic(auto)]
+
 #[cfg(test)]
 mod draft_examples;
 #[cfg(test)]

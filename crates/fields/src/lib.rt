@@ -1,4 +1,6 @@
 // The fields of a plan or a message: where they stand in the bytes, and the checks that every one of them meets.
+#![tactic(auto)]
+
 mod bytes;
 mod checks;
 mod fault;

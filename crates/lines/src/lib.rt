@@ -1,4 +1,5 @@
 // One line of text for each message: the call's word, three numbers and a newline.
+#![tactic(auto)]
 
 mod line;
 mod number;

@@ -1,4 +1,6 @@
 // Messages: what they say, how they are read from bytes, and how they are written.
+#![tactic(auto)]
+
 mod arguments;
 mod call;
 mod fault;

@@ -1,4 +1,6 @@
 // Orders on numbered members: by each member's parent, and by a row of bits for each member.
+#![tactic(auto)]
+
 mod masks;
 mod order;
 mod parents;

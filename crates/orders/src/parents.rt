@@ -2,8 +2,7 @@
 ghost use Rattle.std.specs.Prelude.{◌≡◌, ℕ, ◌<◌, true, is_ok, IfOk};
 ghost use Rattle.orders.specs.Parents.{parents_checked, stands_lower, tree_above};
 ghost use Rattle.refusals.specs.Checks.{verdict};
-ghost use Rattle.orders.specs.ParentsFacts.{parents_lower, tree_reflexive, tree_transitive, tree_antisymmetric};
-ghost use Rattle.std.proofs.Common.{rules, arith};
+ghost use Rattle.orders.specs.ParentsFacts.{parents_lower, tree_antisymmetric, tree_inside, tree_reflexive, tree_transitive};
 
 use crate::order::Order;
 
@@ -60,7 +59,7 @@ impl Order for Parents {
 
     ghost above = { λ o a b. tree_above o.parents o.count a b };
 
-    ghost inside = { first_of (Prim.search rules, Prim.grind (arith, Self.row.coded.inj)) };
+    ghost inside = { λ o. tree_inside o.parents o.count };
 
     ghost reflexive = { λ o. tree_reflexive o.parents o.count (parents_lower o.parents o.count o.sound) };
 

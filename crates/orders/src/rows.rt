@@ -2,8 +2,7 @@
 ghost use Rattle.std.specs.Prelude.{◌≡◌, true, is_ok, IfOk, slice_index};
 ghost use Rattle.orders.specs.Rows.{bit_covered, covers, row_above, row_stands, rows_checked, stands_over, stands_over_all};
 ghost use Rattle.refusals.specs.Checks.{verdict};
-ghost use Rattle.orders.specs.RowsFacts.{rows_reflexive, rows_transitive, rows_antisymmetric};
-ghost use Rattle.std.proofs.Common.{rules, arith};
+ghost use Rattle.orders.specs.RowsFacts.{above_inside, rows_antisymmetric, rows_reflexive, rows_transitive};
 
 use crate::masks::{has_bit, names_members};
 use crate::order::Order;
@@ -52,7 +51,7 @@ impl Order for Rows {
 
     ghost above = { λ o a b. row_above o.rows o.count a b };
 
-    ghost inside = { first_of (Prim.search rules, Prim.grind (arith, Self.row.coded.inj)) };
+    ghost inside = { λ o. above_inside o.rows o.count };
 
     ghost reflexive = { λ o. rows_reflexive 16 o.rows o.count o.sound };
 

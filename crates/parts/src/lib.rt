@@ -1,4 +1,6 @@
 // One branch's part of a roll: records of postings, what is told of them, and where one may be written.
+#![tactic(auto)]
+
 mod part;
 mod posting;
 

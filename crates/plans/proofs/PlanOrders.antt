@@ -71,7 +71,7 @@ module _ (bytes : List ℕ) (layout : Layout) where
       must_of (stands_lower k (get_or ps k 0)) (NotLower k)
       (ap (λ parent. stands_lower k parent) (parent_read n k f h (leb-true n 64 few)) ∙ parent_lower (eqb k 0) (eqb (byte_at bytes at) 0) (ltb (byte_at bytes at) k) allowed))
 
--- every plan that was read
+-- every plan that was read gives both orders
 pub read_orders : (bytes : List ℕ) → plan_result bytes ≡ Ok tt → Ordered (plan_made bytes (layout_of bytes))
 unfolding plan_result plan_made layout_of branches_in roles_in
 read_orders bytes e =
@@ -79,8 +79,14 @@ read_orders bytes e =
     let passed = all_passed (plan_steps bytes layout) e in
     let fields = all_passed (field_steps bytes layout) (fields_passed (in_order (field_steps bytes layout)) passed.0) in
     let body = all_passed (body_steps bytes layout) fields.0 in
-    record {
-      some = leb-true 1 layout.branches.count (count_passed bytes layout.branches 1 1 64 body.1.0).0;
-      branches = parents_pass bytes layout body.1.0 body.1.1.0;
-      roles = rows_passed (rows_read bytes layout) passed.1.0;
-    }
+    record { branches = parents_pass bytes layout body.1.0 body.1.1.0; roles = rows_passed (rows_read bytes layout) passed.1.0 }
+
+-- and has a branch at least
+pub read_branches : (bytes : List ℕ) → plan_result bytes ≡ Ok tt → 0 < (plan_made bytes (layout_of bytes)).branch_count
+unfolding plan_result plan_made layout_of branches_in
+read_branches bytes e =
+    let layout = layout_of bytes in
+    let passed = all_passed (plan_steps bytes layout) e in
+    let fields = all_passed (field_steps bytes layout) (fields_passed (in_order (field_steps bytes layout)) passed.0) in
+    let body = all_passed (body_steps bytes layout) fields.0 in
+    leb-true 1 layout.branches.count (count_passed bytes layout.branches 1 1 64 body.1.0).0

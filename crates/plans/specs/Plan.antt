@@ -1,5 +1,5 @@
 -- The plan and what the orders take from it.
-use Rattle.std.specs.Prelude.{◌≡◌, ℕ, ◌<◌, List, map, replicate, Ok}
+use Rattle.std.specs.Prelude.{◌≡◌, ℕ, List, map, replicate, Ok}
 use Rattle.orders.specs.Parents.{parents_checked}
 use Rattle.orders.specs.Rows.{rows_checked}
 use Rattle.plans.specs.declared.branch.Branch.{Branch}
@@ -19,9 +19,8 @@ parents_of branches = map (λ branch. branch.parent) branches
 abbrev pub rows_of : List Role → List ℕ
 rows_of roles = map (λ role. role.row) roles
 
--- the plan gives both orders: it has a branch, and its parents and its rows pass
+-- the plan gives both orders: its parents and its rows pass
 pub record Ordered (plan : Plan) : Type 0 where
-  pub some : 0 < plan.branch_count
   pub branches : parents_checked (parents_of plan.branches) plan.branch_count ≡ Ok tt
   pub roles : rows_checked 16 (rows_of plan.roles) plan.role_count ≡ Ok tt
 

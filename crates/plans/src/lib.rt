@@ -1,4 +1,6 @@
 // The plan: its records, the reader of plan files, and the two orders that a plan gives.
+#![tactic(auto)]
+
 mod branch;
 mod fault;
 mod layout;

@@ -1,4 +1,6 @@
 // What a refusal tells, and how a row of checks gives its first refusal.
+#![tactic(auto)]
+
 mod check;
 mod refusal;
 

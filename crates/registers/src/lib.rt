@@ -1,4 +1,6 @@
 // Registers: who is posted to which role at which branch, and how many postings a branch may have.
+#![tactic(auto)]
+
 mod bits;
 mod fault;
 mod numbers;

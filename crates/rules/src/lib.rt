@@ -1,4 +1,6 @@
 // The rules: what each call is answered and what it changes, as definitions (specs/), and the promises about them.
+#![tactic(auto)]
+
 mod answer;
 mod fault;
 mod laws;

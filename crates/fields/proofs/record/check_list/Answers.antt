@@ -10,13 +10,13 @@ loop-number-preserved g c =
     let scope = c.args.scope in
     let number = c.loop-number.number in
     every_more (λ k. g.T.Record.checked bytes scope (c.args.first + g.T.Record.size * k) k) number c.loop-number.invariant
-    (ap (λ at. g.T.Record.checked bytes scope at number) (sym c.place.ensures) ∙ sym c.in-ok-check.ensures)
+    (ap (λ at. g.T.Record.checked bytes scope at number) (sym c.place.ensures) ∙ sym c.in_ok-check.ensures)
 
-pub returns-in-err-check : goal.returns-in-err-check
-returns-in-err-check g c =
-    let p = err_from_is_err_and c.from-residual.result c.from-residual.ensures.1 in
+pub returns-in_err-check : goal.returns-in_err-check
+returns-in_err-check g c =
+    let p = err_from_is_err_and c.from_residual.result c.from_residual.ensures.1 in
     let bytes = c.args.bytes.now in
     let scope = c.args.scope in
     let number = c.loop-number.number in
     rw (p.1, p.2) (sym (every_stops (λ k. g.T.Record.checked bytes scope (c.args.first + g.T.Record.size * k) k) _ c.args.count number (omega arith) c.loop-number.invariant
-    (ap (λ at. g.T.Record.checked bytes scope at number) (sym c.place.ensures) ∙ sym c.in-err-check.ensures)))
+    (ap (λ at. g.T.Record.checked bytes scope at number) (sym c.place.ensures) ∙ sym c.in_err-check.ensures)))

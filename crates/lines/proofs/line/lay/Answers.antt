@@ -9,5 +9,5 @@ returns c =
     let text = c.args.text.now in
     record {
       ends = refl;
-      bytes = put_mid-paste at (at + length text - at) c.args.line.now c.copy-from-slice.new.self text (length text) c.copy-from-slice.ensures.after (omega arith) refl;
+      bytes = put_mid-paste at (at + length text - at) c.args.line.now c.copy_from_slice.new.self text (length text) c.copy_from_slice.ensures.after (omega arith) refl;
     }

@@ -3,9 +3,9 @@ use Rattle.std.proofs.Common.{rules}
 use Rattle.messages.specs.Reading.{message_result}
 use Rattle.messages.proofs.reader.check.Goals as goal
 
-pub returns-in-err-check-fields : goal.returns-in-err-check-fields
+pub returns-in_err-check_fields : goal.returns-in_err-check_fields
 unfolding message_result
-returns-in-err-check-fields c = search rules
+returns-in_err-check_fields c = search rules
 
 pub returns : goal.returns
 unfolding message_result

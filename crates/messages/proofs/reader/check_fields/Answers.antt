@@ -11,7 +11,7 @@ returns c =
     let bytes = c.args.bytes.now in
     let number = c.args.number in
     let count = c.args.count in
-    c.check-end.ensures
+    c.check_end.ensures
     ∙ ap (λ width. end_checked bytes (6 + 2 * count + width)) c.width.ensures
     ∙ sym (last_says (take 6 (field_steps bytes number count)) (end_checked bytes (6 + 2 * count + arguments_width number))
-    (sym c.in-ok-header.ensures, (ap (λ rule. field_checked bytes 3 1 rule) (sym c.within.ensures) ∙ sym c.in-ok-field.ensures, (sym c.in-ok-check-person.ensures, (ap (λ rule. field_checked bytes 5 1 rule) (sym c.within-2.ensures) ∙ sym c.in-ok-field-2.ensures, (sym c.in-ok-check-list.ensures, (sym c.in-ok-check-arguments.ensures, tt)))))))
+    (sym c.in_ok-header.ensures, (ap (λ rule. field_checked bytes 3 1 rule) (sym c.within.ensures) ∙ sym c.in_ok-field.ensures, (sym c.in_ok-check_person.ensures, (ap (λ rule. field_checked bytes 5 1 rule) (sym c.within-2.ensures) ∙ sym c.in_ok-field-2.ensures, (sym c.in_ok-check_list.ensures, (sym c.in_ok-check_arguments.ensures, tt)))))))

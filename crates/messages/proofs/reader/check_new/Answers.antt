@@ -13,13 +13,13 @@ loop-j-preserved c =
     let bytes = c.args.bytes.now in
     let k = c.args.k in
     every_more (λ j. must (not (same_post (post_in bytes j) (post_in bytes k))) (Twice k)) c.loop-j.j c.loop-j.invariant
-    (ap (λ same. must (not same) (Twice k)) (sym c.same.ensures) ∙ sym c.in-ok-must.ensures)
+    (ap (λ same. must (not same) (Twice k)) (sym c.same.ensures) ∙ sym c.in_ok-must.ensures)
 
-pub returns-in-err-must : goal.returns-in-err-must
-returns-in-err-must c =
-    let p = err_from_is_err_and c.from-residual.result c.from-residual.ensures.1 in
+pub returns-in_err-must : goal.returns-in_err-must
+returns-in_err-must c =
+    let p = err_from_is_err_and c.from_residual.result c.from_residual.ensures.1 in
     let bytes = c.args.bytes.now in
     let k = c.args.k in
     rw (p.1, p.2)
     (sym (every_stops (λ j. must (not (same_post (post_in bytes j) (post_in bytes k))) (Twice k)) _ k c.loop-j.j (omega arith) c.loop-j.invariant
-    (ap (λ same. must (not same) (Twice k)) (sym c.same.ensures) ∙ sym c.in-err-must.ensures)))
+    (ap (λ same. must (not same) (Twice k)) (sym c.same.ensures) ∙ sym c.in_err-must.ensures)))

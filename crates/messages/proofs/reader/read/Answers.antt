@@ -9,22 +9,26 @@ use Rattle.messages.proofs.Accepted.{count_bounds, posts_apart}
 use Rattle.messages.proofs.WrittenBack.{parts_read, written_back}
 use Rattle.messages.proofs.reader.read.Goals as goal
 
-pub invariant-of-into : goal.invariant-of-into
-invariant-of-into c =
+pub invariant_of-into : goal.invariant_of-into
+invariant_of-into c =
     let bytes = c.args.bytes.now in
     let count = c.byte-count.result in
-    let passed = sym c.in-ok-check.ensures in
+    let passed = sym c.in_ok-check.ensures in
     let bounds = count_bounds bytes passed in
-    (omega arith, (omega arith, (subst (λ posts. Apart posts count) (sym c.read-list.ensures) (posts_apart bytes count passed c.byte-count.ensures), tt)))
+    record {
+      some = omega arith;
+      few = omega arith;
+      apart = subst (λ posts. Apart posts count) (sym c.read_list.ensures) (posts_apart bytes count passed c.byte-count.ensures);
+    }
 
 pub returns : goal.returns
 returns c =
     let bytes = c.args.bytes.now in
-    let passed = sym c.in-ok-check.ensures in
-    let posts : c.read-list.result ≡ filled 4 (byte_at bytes 5) no_post (post_in bytes) = search rules in
-    let call : c.read-call.result ≡ call_at bytes (byte_at bytes 3) (6 + 2 * byte_at bytes 5) = search rules in
+    let passed = sym c.in_ok-check.ensures in
+    let posts : c.read_list.result ≡ filled 4 (byte_at bytes 5) no_post (post_in bytes) = search rules in
+    let call : c.read_call.result ≡ call_at bytes (byte_at bytes 3) (6 + 2 * byte_at bytes 5) = search rules in
     record {
       answer = sym passed;
       leaves = record { person = c.byte.ensures; count = c.byte-count.ensures; posts = posts; call = call };
-      written_back = ap written (parts_read bytes c.byte.ensures c.byte-count.ensures posts call (count_bounds bytes passed).1) ∙ written_back bytes (λ k. omega (arith, c.type-inv.bytes k)) passed;
+      written_back = ap written (parts_read bytes c.byte.ensures c.byte-count.ensures posts call (count_bounds bytes passed).1) ∙ written_back bytes (λ k. omega (arith, c.type_inv.bytes k)) passed;
     }

@@ -8,10 +8,10 @@ returns c =
     let at = c.args.at in
     let part = c.args.part.now in
     let bytes = c.args.bytes.now in
-    let laid = c.copy-from-slice.ensures.after in
+    let laid = c.copy_from_slice.ensures.after in
     record {
       ends = refl;
       front =
-          take-put_mid at (at + length part - at) bytes c.copy-from-slice.new.self (at + length part) (ap (λ xs. at + length xs) (sym laid)) (omega arith)
+          take-put_mid at (at + length part - at) bytes c.copy_from_slice.new.self (at + length part) (ap (λ xs. at + length xs) (sym laid)) (omega arith)
           ∙ ap (λ xs. take at bytes ++ xs) laid;
     }

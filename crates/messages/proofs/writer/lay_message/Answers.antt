@@ -22,11 +22,11 @@ returns c =
     ap (λ n. take n begun) (sym c.lay.ensures.ends) ∙ c.lay.ensures.front
     ∙ ap (λ w. 1 ∷ 0 ∷ (3 + 2 * count + w) ∷ c.number-number.result ∷ person ∷ count ∷ []) c.width.ensures
     ∙ ap (λ n. 1 ∷ 0 ∷ (3 + 2 * count + arguments_width n) ∷ n ∷ person ∷ count ∷ []) c.number-number.ensures in
-    let end = c.lay-arguments.result in
-    let all = c.lay-arguments.new.bytes in
+    let end = c.lay_arguments.result in
+    let all = c.lay_arguments.new.bytes in
     let fits : end ≤ 17 = omega (arith, length_arguments call, width_few (number_of call)) in
     let front : take end all ≡ written s =
-    c.lay-arguments.ensures.front
-    ∙ ap (λ xs. xs ++ arguments_of call) (c.lay-posts-arguments.ensures.front ∙ ap (λ xs. xs ++ flat_map post_bytes s.posts) head)
-    ∙ sym (written_parts s count c.lay-posts-arguments.ensures.all few) in
+    c.lay_arguments.ensures.front
+    ∙ ap (λ xs. xs ++ arguments_of call) (c.lay_posts-arguments.ensures.front ∙ ap (λ xs. xs ++ flat_map post_bytes s.posts) head)
+    ∙ sym (written_parts s count c.lay_posts-arguments.ensures.all few) in
     record { ends = sym (length-take-le end all (omega arith)) ∙ ap length front; front = front; fits = fits }

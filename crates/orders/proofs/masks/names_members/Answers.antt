@@ -8,9 +8,9 @@ use Rattle.refusals.specs.Checks.{all}
 pub loop-k-preserved : goal.loop-k-preserved
 loop-k-preserved c = all_more (bit_of_member c.args.mask c.args.count) c.loop-k.k c.loop-k.invariant (search rules)
 
-pub returns-then-not-bit-of-member : goal.returns-then-not-bit-of-member
+pub returns-then-not-bit_of_member : goal.returns-then-not-bit_of_member
 unfolding names_members
-returns-then-not-bit-of-member c = sym (all_stops (bit_of_member c.args.mask c.args.count) 16 c.loop-k.k (omega arith) (search rules))
+returns-then-not-bit_of_member c = sym (all_stops (bit_of_member c.args.mask c.args.count) 16 c.loop-k.k (omega arith) (search rules))
 
 pub returns : goal.returns
 unfolding names_members

@@ -8,8 +8,8 @@ use Rattle.refusals.specs.Checks.{all}
 pub loop-k-preserved : goal.loop-k-preserved
 loop-k-preserved c = all_more (bit_covered c.args.upper c.args.lower) c.loop-k.k c.loop-k.invariant (search rules)
 
-pub returns-then-not-bit-covered : goal.returns-then-not-bit-covered
-returns-then-not-bit-covered c = sym (all_stops (bit_covered c.args.upper c.args.lower) 16 c.loop-k.k (omega arith) (search rules))
+pub returns-then-not-bit_covered : goal.returns-then-not-bit_covered
+returns-then-not-bit_covered c = sym (all_stops (bit_covered c.args.upper c.args.lower) 16 c.loop-k.k (omega arith) (search rules))
 
 pub returns : goal.returns
 returns c = let end : c.loop-k.k ≡ 16 = omega arith in sym (subst (λ k. all k (bit_covered c.args.upper c.args.lower) ≡ true) end c.loop-k.invariant)

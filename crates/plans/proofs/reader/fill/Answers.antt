@@ -6,6 +6,6 @@ use Rattle.plans.proofs.reader.fill.Goals as goal
 pub returns : goal.returns
 unfolding plan_made
 returns c =
-    same_plan c.read-list-into.ensures c.byte-into.ensures c.read-list-into-2.ensures c.byte-into-2.ensures c.byte-into-3.ensures
-    c.read-list-into-3.ensures c.byte-into-4.ensures c.read-list-into-4.ensures c.byte-into-5.ensures
-    c.read-list-into-5.ensures c.byte-into-6.ensures c.read-list-into-6.ensures c.two-into.ensures
+    same_plan c.read_list-into.ensures c.byte-into.ensures c.read_list-into-2.ensures c.byte-into-2.ensures c.byte-into-3.ensures
+    c.read_list-into-3.ensures c.byte-into-4.ensures c.read_list-into-4.ensures c.byte-into-5.ensures
+    c.read_list-into-5.ensures c.byte-into-6.ensures c.read_list-into-6.ensures c.two-into.ensures

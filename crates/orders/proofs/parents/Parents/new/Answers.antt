@@ -13,8 +13,8 @@ loop-m-preserved c =
     let here : parent_check c.args.parents c.loop-m.m ≡ Ok tt = search rules in
     every_more (parent_check c.args.parents) c.loop-m.m c.loop-m.invariant here
 
-pub returns-then-not-stands-lower : goal.returns-then-not-stands-lower
-returns-then-not-stands-lower c =
+pub returns-then-not-stands_lower : goal.returns-then-not-stands_lower
+returns-then-not-stands_lower c =
     let check = parent_check c.args.parents in
     let here : parent_check c.args.parents c.loop-m.m ≡ Err (NotLower c.loop-m.m) = search rules in
     record {

@@ -12,8 +12,8 @@ loop-q-preserved c =
     let here : row_check 16 c.args.rows c.args.count c.loop-q.q ≡ Ok tt = search rules in
     every_more (row_check 16 c.args.rows c.args.count) c.loop-q.q c.loop-q.invariant here
 
-pub returns-then-not-row-stands : goal.returns-then-not-row-stands
-returns-then-not-row-stands c =
+pub returns-then-not-row_stands : goal.returns-then-not-row_stands
+returns-then-not-row_stands c =
     let check = row_check 16 c.args.rows c.args.count in
     let here : row_check 16 c.args.rows c.args.count c.loop-q.q ≡ Err (Row c.loop-q.q) = search rules in
     record {
