@@ -85,7 +85,7 @@ fn the_memory_begins_with_the_message(rt: HostRuntime) -> Result<(), Fail> {
             assert_eq!(rt; length, 10);
             assert_eq!(rt;
                 &*memory,
-                &[1, 0, 7, 5, 0, 1, 0, 0, 5, 1, 9, 9, 9, 9, 9, 9, 9]
+                [1, 0, 7, 5, 0, 1, 0, 0, 5, 1, 9, 9, 9, 9, 9, 9, 9].as_slice()
             );
             Ok(())
         }

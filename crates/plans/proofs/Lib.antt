@@ -1,4 +1,4 @@
 -- Lemmas that the proofs share.
 mod Filled
 mod Laid
-mod PlanOrders
+pub mod PlanOrders

@@ -15,7 +15,7 @@ use Rattle.rules.specs.Promises.{Orderly}
 use Rattle.rules.specs.Rows.{Check, before}
 use Rattle.rules.specs.Setup.{Setup, State, home_of, is_branch, piece_of, may_stand_at}
 use Rattle.rules.specs.Views.{candidate, commander, view}
-use Rattle.rules.specs.Words.{belongs, post_at}
+use Rattle.rules.specs.Words.{post_at}
 use Rattle.rules.specs.declared.answer.Accepted.{Accepted}
 use Rattle.rules.specs.declared.fault.EngineFault.{EngineFault}
 use Rattle.rules.specs.declared.fault.EngineFault.TheVariants.{Closed, TooManyOf}

@@ -1,4 +1,4 @@
--- Every plan that gives both orders meets the conditions of the isolation law, and so does the class.
+-- Every plan that has a branch and gives both orders meets the conditions of the isolation law: so do all that were read, and the class.
 use Rattle.std.proofs.Common.{◌≡◌, ◌<◌, is_ok, refl, ap, arith}
 use Rattle.std.proofs.lemmas.Bool.{lt-ltb}
 use Rattle.orders.specs.Masks.{names_members}
@@ -8,10 +8,11 @@ use Rattle.fields.specs.Records.{filled}
 use Rattle.plans.specs.Layout.{layout_of, branches_in, roles_in, principal_in, grants_in, takes_in, sets_in, pieces_in}
 use Rattle.plans.specs.Plan.{Ordered, parents_of, rows_of}
 use Rattle.plans.specs.Reader.{plan_made}
+use Rattle.plans.proofs.PlanOrders.{read_branches, read_orders}
 use Rattle.plans.specs.declared.plan.Plan.{Plan}
 use Rattle.rules.specs.Marked.{ClassMeetsConditions, class_bytes, class_plan}
 use Rattle.rules.specs.Setup.{Lawful}
-use Rattle.rules.specs.Sold.{PlansSound, branch_order, role_order, sold_with}
+use Rattle.rules.specs.Sold.{PlansSound, ReadPlansSound, branch_order, role_order, sold_with}
 
 branches_lawful : (plan : Plan) → Ordered plan → Lawful (branch_order plan)
 branches_lawful plan o =
@@ -38,15 +39,18 @@ roles_lawful plan o =
     }
 
 pub plans_sound : PlansSound
-plans_sound plan o =
+plans_sound plan some o =
     let parents = parents_of plan.branches in
     let n = plan.branch_count in
-    let share : 0 < (sold_with plan).share 0 = rw (lt-ltb 0 n o.some) (omega arith) in
+    let share : 0 < (sold_with plan).share 0 = rw (lt-ltb 0 n some) (omega arith) in
     record {
       orderly = record { branches = branches_lawful plan o; roles = roles_lawful plan o };
       top = tree_top parents n (parents_lower parents n (ap is_ok o.branches));
       room = share;
     }
+
+pub read_plans_sound : ReadPlansSound
+read_plans_sound bytes e = plans_sound (plan_made bytes (layout_of bytes)) (read_branches bytes e) (read_orders bytes e)
 
 class_branches : class_plan.branch_count ≡ 5
 unfolding filled layout_of branches_in roles_in principal_in grants_in takes_in sets_in pieces_in plan_made class_bytes class_plan
@@ -54,11 +58,11 @@ class_branches = refl
 
 class_ordered : Ordered class_plan
 unfolding names_members filled layout_of branches_in roles_in principal_in grants_in takes_in sets_in pieces_in plan_made class_bytes class_plan
-class_ordered = record { some = omega (arith, class_branches); branches = refl; roles = refl }
+class_ordered = record { branches = refl; roles = refl }
 
 pub class_meets_conditions : ClassMeetsConditions
 class_meets_conditions =
     record {
-      sound = plans_sound class_plan class_ordered;
+      sound = plans_sound class_plan (omega (arith, class_branches)) class_ordered;
       below = λ B some few. (omega (arith, class_branches), λ e. omega arith);
     }

@@ -1,8 +1,10 @@
 -- What is sold with a plan: its two orders, and a register that is a grid.
-use Rattle.std.specs.Prelude.{cond, nat_lt}
+use Rattle.std.specs.Prelude.{◌≡◌, ℕ, ◌<◌, cond, List, Ok, nat_lt}
 use Rattle.orders.specs.Parents.{tree_above}
 use Rattle.orders.specs.Rows.{row_above}
+use Rattle.plans.specs.Layout.{layout_of}
 use Rattle.plans.specs.Plan.{Ordered, parents_of, rows_of}
+use Rattle.plans.specs.Reader.{plan_made, plan_result}
 use Rattle.plans.specs.declared.plan.Plan.{Plan}
 use Rattle.rules.specs.Isolation.{Sound}
 use Rattle.rules.specs.Setup.{Hierarchy, Setup}
@@ -26,6 +28,10 @@ sold_with plan =
       share = λ branch. cond (nat_lt branch plan.branch_count) 1024 0;
     }
 
--- every plan that gives both orders, as every plan does that was read, meets the conditions of the isolation law
+-- every plan that has a branch and gives both orders meets the conditions of the isolation law
 abbrev pub PlansSound : Type 0
-PlansSound = (plan : Plan) → Ordered plan → Sound (sold_with plan)
+PlansSound = (plan : Plan) → 0 < plan.branch_count → Ordered plan → Sound (sold_with plan)
+
+-- and so does every plan that was read
+abbrev pub ReadPlansSound : Type 0
+ReadPlansSound = (bytes : List ℕ) → plan_result bytes ≡ Ok tt → Sound (sold_with (plan_made bytes (layout_of bytes)))

@@ -10,9 +10,9 @@ loop-k-preserved c =
     let here : new_at c.args.posts.now c.loop-k.k ≡ Ok tt = search rules in
     every_more (new_at c.args.posts.now) c.loop-k.k c.loop-k.invariant here
 
-pub returns-in-err-check-new : goal.returns-in-err-check-new
-returns-in-err-check-new c =
-    let p = err_from_is_err_and c.from-residual.result c.from-residual.ensures.1 in
-    let here : new_at c.args.posts.now c.loop-k.k ≡ Err c.in-err-check-new.field-0.0 = search rules in
+pub returns-in_err-check_new : goal.returns-in_err-check_new
+returns-in_err-check_new c =
+    let p = err_from_is_err_and c.from_residual.result c.from_residual.ensures.1 in
+    let here : new_at c.args.posts.now c.loop-k.k ≡ Err c.in_err-check_new.field-0.0 = search rules in
     rw (p.1, p.2)
     (sym (every_stops (new_at c.args.posts.now) _ (length c.args.posts.now) c.loop-k.k (omega arith) c.loop-k.invariant here))

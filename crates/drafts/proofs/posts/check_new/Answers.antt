@@ -10,9 +10,9 @@ loop-earlier-preserved c =
     let here : differs c.args.before.now c.args.post c.loop-earlier.earlier-index ≡ Ok tt = search rules in
     every_more (differs c.args.before.now c.args.post) c.loop-earlier.earlier-index c.loop-earlier.invariant here
 
-pub returns-in-err-must : goal.returns-in-err-must
-returns-in-err-must c =
-    let p = err_from_is_err_and c.from-residual.result c.from-residual.ensures.1 in
-    let here : differs c.args.before.now c.args.post c.loop-earlier.earlier-index ≡ Err c.in-err-must.field-0.0 = search rules in
+pub returns-in_err-must : goal.returns-in_err-must
+returns-in_err-must c =
+    let p = err_from_is_err_and c.from_residual.result c.from_residual.ensures.1 in
+    let here : differs c.args.before.now c.args.post c.loop-earlier.earlier-index ≡ Err c.in_err-must.field-0.0 = search rules in
     rw (p.1, p.2)
     (sym (every_stops (differs c.args.before.now c.args.post) _ (length c.args.before.now) c.loop-earlier.earlier-index (omega arith) c.loop-earlier.invariant here))

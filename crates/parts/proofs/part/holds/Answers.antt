@@ -5,4 +5,4 @@ use Rattle.parts.specs.Part.{free}
 use Rattle.search.proofs.Searches.{first_any}
 
 pub returns : goal.returns
-returns c = c.is-some.ensures ∙ ap is_some (c.first.ensures free) ∙ first_any _ (length c.args.part.now)
+returns c = c.is_some.ensures ∙ ap is_some (c.first.ensures free) ∙ first_any _ (length c.args.part.now)

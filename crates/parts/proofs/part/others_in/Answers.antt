@@ -16,8 +16,8 @@ loop-record-init c =
     λ k. and_right (not (eqb k c.args.person)) _ (among_none part k c.args.role c.args.branch) in
     (refl, (λ k h. get_or-replicate 64 k false false h ∙ sym (none k)), sym (count_zero _ 64 (λ k h. none k)))
 
-pub overflow-add-count : goal.overflow-add-count
-overflow-add-count c = omega (arith, c.loop-record.invariant.2, count_most (λ x. not (eqb x c.args.person) && among c.args.part.now c.loop-record.record-index x c.args.role c.args.branch) 64)
+pub overflow_add-count : goal.overflow_add-count
+overflow_add-count c = omega (arith, c.loop-record.invariant.2, count_most (λ x. not (eqb x c.args.person) && among c.args.part.now c.loop-record.record-index x c.args.role c.args.branch) 64)
 
 pub loop-record-preserved : goal.loop-record-preserved
 loop-record-preserved c =
@@ -34,7 +34,7 @@ loop-record-preserved c =
           let told = sym c.mark.ensures.told ∙ w.if-mark.true in
           let new = seen_new before after c.loop-record.seen it.person other c.loop-record.invariant.1 more own c.loop-record.invariant.0 told in
           let list : c.mark.new.seen ≡ set c.loop-record.seen it.person true = c.mark.ensures.marked ∙ ap (λ b. cond b (set c.loop-record.seen it.person true) c.loop-record.seen) w.if-mark.true in (
-            c.type-inv.seen,
+            c.type_inv.seen,
             (λ k h. ap (λ (s : List Bool). get_or s k false) list ∙ new.0 k h),
             w.count-is ∙ ap (λ n. n + 1) c.loop-record.invariant.2 ∙ sym new.1,
           )
@@ -42,7 +42,7 @@ loop-record-preserved c =
           let told = sym c.mark.ensures.told ∙ w.if-mark.false in
           let old = seen_before before after c.loop-record.seen it.person other c.loop-record.invariant.1 more own c.loop-record.invariant.0 told in
           let list : c.mark.new.seen ≡ c.loop-record.seen = c.mark.ensures.marked ∙ ap (λ b. cond b (set c.loop-record.seen it.person true) c.loop-record.seen) w.if-mark.false in (
-            c.type-inv.seen,
+            c.type_inv.seen,
             (λ k h. ap (λ (s : List Bool). get_or s k false) list ∙ old.0 k h),
             w.count-is ∙ c.loop-record.invariant.2 ∙ sym old.1,
           )

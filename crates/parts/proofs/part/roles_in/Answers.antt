@@ -13,7 +13,7 @@ loop-record-init c q = no_bit q ∙ sym (and_right (ltb q 16) _ (among_none c.ar
 pub loop-record-preserved : goal.loop-record-preserved
 loop-record-preserved c q =
     roles_more c.args.part.now c.loop-record.record-index c.args.person q c.args.branch (has_bit c.loop-record.mask q) _
-    (c.loop-record.invariant q) (c.with-role-mask.ensures q)
+    (c.loop-record.invariant q) (c.with_role-mask.ensures q)
 
 pub returns : goal.returns
 returns c q =

@@ -9,4 +9,4 @@ loop-b-init c = (omega arith, sym (sum_none _))
 pub loop-b-preserved : goal.loop-b-preserved
 loop-b-preserved c =
     let more = sum_more (λ b. get_or c.args.shares.now b 0) c.loop-b.b in
-    (omega arith, omega (arith, more, c.share-at.ensures, c.loop-b.invariant.1))
+    (omega arith, omega (arith, more, c.share_at.ensures, c.loop-b.invariant.1))

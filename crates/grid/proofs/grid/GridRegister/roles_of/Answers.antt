@@ -5,8 +5,8 @@ use Rattle.grid.proofs.grid.GridRegister.roles_of.Goals as goal
 use Rattle.grid.specs.Grid.{grid_branches}
 use Rattle.orders.specs.Masks.{has_bit}
 
-pub returns-then-branch-branch-count : goal.returns-then-branch-branch-count
-returns-then-branch-branch-count c q =
+pub returns-then-branch-branch_count : goal.returns-then-branch-branch_count
+returns-then-branch-branch_count c q =
     let s = c.args.self.now in
     let branch : c.args.branch < grid_branches s.cells.now s.branches = omega arith in
     ap (λ k. has_bit (get_or s.cells.now k 0) q) c.place.ensures

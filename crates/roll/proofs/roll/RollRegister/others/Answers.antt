@@ -9,11 +9,11 @@ use Rattle.parts.specs.declared.posting.Posting.{Posting}
 use Rattle.search.specs.Searches.{count_below}
 use Rattle.std.proofs.lemmas.Bool.{cond-true, lt-ltb}
 
-pub returns-then-is-err : goal.returns-then-is-err
-returns-then-is-err c =
+pub returns-then-is_err : goal.returns-then-is_err
+returns-then-is_err c =
     let s = c.args.self.now in
     sym (others_none (roll_posted s.records.now s.shares.now s.branches) s.branches c.args.person c.args.role c.args.branch
-    (roll_inside s.records.now s.shares.now s.branches) (sym (c.if-is-err.ensures.value ∙ ap is_err c.check-numbers.ensures.answer)))
+    (roll_inside s.records.now s.shares.now s.branches) (sym (c.if-is_err.ensures.value ∙ ap is_err c.check_numbers.ensures.answer)))
 
 pub returns : goal.returns
 returns c =
@@ -21,8 +21,8 @@ returns c =
     let person = c.args.person in
     let role = c.args.role in
     let branch = c.args.branch in
-    let own : (person < 64) × (role < 16) × (branch < s.branches) = own_numbers c.check-numbers.result _ (sym c.if-is-err.ensures.value) c.check-numbers.ensures.passed in
-    c.others-in.ensures
+    let own : (person < 64) × (role < 16) × (branch < s.branches) = own_numbers c.check_numbers.result _ (sym c.if-is_err.ensures.value) c.check_numbers.ensures.passed in
+    c.others_in.ensures
     ∙ ap (λ (part : List Posting). count_below 64 (λ x. not (eqb x person) && among part (length part) x role branch)) c.part.ensures
     ∙ count_same _ (λ x. not (eqb x person) && roll_posted s.records.now s.shares.now s.branches x role branch) 64
     (λ x h. ap (λ b. not (eqb x person) && b) (sym (roll_among s.records.now s.shares.now s.branches x role branch h own.1 own.2)))

@@ -10,16 +10,16 @@ use Rattle.search.specs.Searches.{first_below}
 use Rattle.std.proofs.lemmas.List.{length-set}
 use Rattle.std.proofs.lemmas.Bool.{not-true}
 
-pub returns-in-default : goal.returns-in-default
-returns-in-default c =
+pub returns-in_default : goal.returns-in_default
+returns-in_default c =
     let s = c.args.self.now in
-    let own = c.in-ok-check-numbers.ensures.passed in
+    let own = c.in_ok-check_numbers.ensures.passed in
     let absent =
     subst (λ (part : List Posting). among part (length part) c.args.person c.args.role c.args.branch ≡ false) c.part.ensures
-    (sym c.holds.ensures ∙ not-true _ (must_true _ _ (sym c.in-ok-must.ensures))) in
+    (sym c.holds.ensures ∙ not-true _ (must_true _ _ (sym c.in_ok-must.ensures))) in
     let none =
     subst (λ (part : List Posting). first_below (length part) (spare part c.args.branch) ≡ None) c.part-2.ensures
-    (sym c.spare-in.ensures ∙ c.in-default.is) in
+    (sym c.spare_in.ensures ∙ c.in_default.is) in
     record {
       answer = sym (roll_full s.records.now s.shares.now s.branches c.args.person c.args.role c.args.branch own.0 own.1 own.2 absent none);
       leaves = refl;
@@ -30,7 +30,7 @@ returns-in-default c =
 found : (c : goal.After-start-start) → first_below (length (roll_part c.args.self.now.records.now c.args.self.now.shares.now c.args.self.now.branches c.args.branch)) (spare (roll_part c.args.self.now.records.now c.args.self.now.shares.now c.args.self.now.branches c.args.branch) c.args.branch) ≡ Some c.in-Some.i
 found c =
     subst (λ (part : List Posting). first_below (length part) (spare part c.args.branch) ≡ Some c.in-Some.i) c.part-2.ensures
-    (sym c.spare-in.ensures ∙ c.in-Some.is)
+    (sym c.spare_in.ensures ∙ c.in-Some.is)
 
 place : (c : goal.After-start-start) → c.start-start.result + c.in-Some.i ≡ roll_start (length c.args.self.now.records.now) c.args.self.now.shares.now c.args.branch + c.in-Some.i
 place c = ap (λ n. n + c.in-Some.i) c.start-start.ensures
@@ -38,14 +38,14 @@ place c = ap (λ n. n + c.in-Some.i) c.start-start.ensures
 below : (c : goal.After-start-start) → c.start-start.result + c.in-Some.i < length c.args.self.now.records.now
 below c =
     let s = c.args.self.now in
-    let own = c.in-ok-check-numbers.ensures.passed in
+    let own = c.in_ok-check_numbers.ensures.passed in
     place_inside s.records.now s.shares.now s.branches c.args.person c.args.role c.args.branch c.in-Some.i _ own.0 own.1 own.2 (found c) (place c)
 
-pub overflow-add-start : goal.overflow-add-start
-overflow-add-start c = omega (arith, below c)
+pub overflow_add-start : goal.overflow_add-start
+overflow_add-start c = omega (arith, below c)
 
-pub offset-bounds-self-start : goal.offset-bounds-self-start
-offset-bounds-self-start c = omega (arith, below c)
+pub offset_bounds-self-start : goal.offset_bounds-self-start
+offset_bounds-self-start c = omega (arith, below c)
 
 pub bounds-self-start : goal.bounds-self-start
 bounds-self-start c = below c
@@ -53,10 +53,10 @@ bounds-self-start c = below c
 pub returns : goal.returns
 returns c =
     let s = c.args.self.now in
-    let own = c.in-ok-check-numbers.ensures.passed in
+    let own = c.in_ok-check_numbers.ensures.passed in
     let absent =
     subst (λ (part : List Posting). among part (length part) c.args.person c.args.role c.args.branch ≡ false) c.part.ensures
-    (sym c.holds.ensures ∙ not-true _ (must_true _ _ (sym c.in-ok-must.ensures))) in
+    (sym c.holds.ensures ∙ not-true _ (must_true _ _ (sym c.in_ok-must.ensures))) in
     record {
       answer = sym (roll_room s.records.now s.shares.now s.branches c.args.person c.args.role c.args.branch c.in-Some.i own.0 own.1 own.2 absent (found c));
       leaves = roll_added s.records.now s.shares.now s.branches c.args.person c.args.role c.args.branch c.in-Some.i (c.start-start.result + c.in-Some.i) own.0 own.1 own.2 (found c) (place c);
