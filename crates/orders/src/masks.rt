@@ -23,10 +23,5 @@ fn bit_of_member(mask: u16, count: u16, k: u8) -> bool
 pub fn names_members(mask: u16, count: u16) -> bool
     ensures { result ≡ names_members 16 mask count }
 {
-    for k in 0..BITS {
-        if !bit_of_member(mask, count, k) {
-            return false;
-        }
-    }
-    true
+    (0..BITS).all(|k| bit_of_member(mask, count, k))
 }

@@ -1,6 +1,7 @@
 -- What a row of checks says: as a loop goes through it, and of each check once all have passed.
-use Rattle.std.proofs.Common.{◌≡◌, ℕ, zero, suc, ◌+◌, ◌<◌, Bool, true, false, List, [], ◌∷◌, Ok, Err, Result, refl, ap, ◌∙◌, subst, inl, inr, add-one, arith}
+use Rattle.std.proofs.Common.{◌≡◌, ℕ, zero, suc, ◌+◌, ◌<◌, Bool, true, false, ◌&&◌, List, [], ◌∷◌, Ok, Err, Result, sym, refl, ap, ◌∙◌, subst, inl, inr, add-one, arith}
 use Rattle.std.proofs.lemmas.Bool.{cases_lt, and_parts, and_from, and_left, and_right}
+use Rattle.std.specs.List.{list_all, range_with_len}
 use Rattle.refusals.specs.Checks.{must, then, in_order, every, all}
 
 -- a row of checks that has passed, and one more check
@@ -68,6 +69,16 @@ every_of check (suc n) h = then_passed (every n check) (check n) (every_of check
 pub all_more : (test : ℕ → Bool) (n : ℕ) → all n test ≡ true → test n ≡ true → all (n + 1) test ≡ true
 all_more test n before here = rw add-one (and_from (all n test) (test n) before here)
 
+-- a row of tests holds where each of them does
+pub all_of : (test : ℕ → Bool) (n : ℕ) → ((k : ℕ) → k < n → test k ≡ true) → all n test ≡ true
+all_of test zero h = refl
+all_of test (suc n) h = and_from (all n test) (test n) (all_of test n (λ k l. h k (omega arith))) (h n (omega arith))
+
+-- two rows of tests that agree say the same
+pub all_same : (test also : ℕ → Bool) (n : ℕ) → ((k : ℕ) → k < n → test k ≡ also k) → all n test ≡ all n also
+all_same test also zero same = refl
+all_same test also (suc n) same = (λ i. all_same test also n (λ k h. same k (omega arith)) i && same n (omega arith) i)
+
 -- the way out of a loop at a test that fails
 pub all_stops : (test : ℕ → Bool) (n k : ℕ) → k < n → test k ≡ false → all n test ≡ false
 all_stops test zero k h here = absurd (omega arith)
@@ -86,3 +97,23 @@ all_at test (suc n) k h e =
       | inl l ↦ all_at test n k l both.0
       | inr g ↦ let same : n ≡ k = omega arith in subst (λ m. test m ≡ true) same both.1
     ]
+
+-- the tests of the numbers from a on, the first one first, are those of a row
+pub all_range : (test : ℕ → Bool) (a n : ℕ) → list_all test (range_with_len a n) ≡ all n (λ k. test (a + k))
+all_range test a zero = refl
+all_range test a (suc n) =
+    let here : a ≡ a + 0 = omega arith in
+    let later = all_range test (a + 1) n ∙ all_same (λ k. test (a + 1 + k)) (λ k. test (a + (k + 1))) n (λ k h. ap test (omega arith)) in
+    (λ i. test (here i) && later i) ∙ shifted (λ k. test (a + k)) n
+  where
+    last : (b : Bool) → (b && true) ≡ (true && b)
+    last true = refl
+    last false = refl
+
+    nested : (b c d : Bool) → (b && (c && d)) ≡ ((b && c) && d)
+    nested true c d = refl
+    nested false c d = refl
+
+    shifted : (fits : ℕ → Bool) (m : ℕ) → (fits 0 && all m (λ k. fits (k + 1))) ≡ all (suc m) fits
+    shifted fits zero = last (fits 0)
+    shifted fits (suc m) = nested (fits 0) (all m (λ k. fits (k + 1))) (fits (m + 1)) ∙ ap (λ b. b && fits (m + 1)) (shifted fits m) ∙ rw add-one refl
