@@ -6,15 +6,12 @@ ghost use Rattle.fields.specs.Bytes.{byte_at, two_at};
 pub fn byte(bytes: &[u8], at: usize) -> u8
     ensures { result ≡ byte_at bytes.now at }
 {
-    if at < bytes.len() { bytes[at] } else { 0 }
+    bytes.get(at).copied().unwrap_or(0)
 }
 
 // The number of two bytes at the offset, the first byte weighing 256.
 pub fn two(bytes: &[u8], at: usize) -> u16
     ensures { result ≡ two_at bytes.now at }
 {
-    if at >= bytes.len() {
-        return 0;
-    }
-    256 * byte(bytes, at) as u16 + byte(bytes, at + 1) as u16
+    u16::from_be_bytes([byte(bytes, at), byte(bytes, at.saturating_add(1))])
 }

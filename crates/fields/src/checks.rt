@@ -1,5 +1,6 @@
 // The checks of the header, of each field and of the end.
-ghost use Rattle.std.specs.Prelude.{◌≡◌};
+ghost use Rattle.std.specs.Prelude.{◌≡◌, nat_lt};
+ghost use Rattle.fields.specs.Bytes.{byte_at};
 ghost use Rattle.fields.specs.Fields.{header_checked, field_checked, end_checked};
 
 use crate::bytes::{byte, two};
@@ -27,6 +28,13 @@ pub fn field(bytes: &[u8], at: usize, size: usize, rule: bool) -> Result<(), Fie
     let given = bytes.len();
     must(at <= given && size <= given - at, FieldFault::Misfit(at))?;
     must(rule, FieldFault::Value(at))
+}
+
+// The byte at the offset fits, and is below the limit.
+pub fn check_below(bytes: &[u8], at: usize, limit: u16) -> Result<(), FieldFault>
+    ensures { result ≡ field_checked bytes.now at 1 (nat_lt (byte_at bytes.now at) limit) }
+{
+    field(bytes, at, 1, u16::from(byte(bytes, at)) < limit)
 }
 
 // Nothing is left over behind the last field.

@@ -16,32 +16,21 @@ pub enum FieldFault {
     Value(usize),
 }
 
-impl FieldFault {
-    // The three numbers that are told of the fault.
-    pub fn refusal(self) -> Refusal
-        ensures { result ≡ field_refusal self }
-    {
-        match self {
-            FieldFault::Version => Refusal {
-                number: 1,
-                layer: 1,
-                place: 0,
-            },
-            FieldFault::Length(given) => Refusal {
-                number: 2,
-                layer: 1,
-                place: place(given),
-            },
-            FieldFault::Misfit(at) => Refusal {
-                number: 3,
-                layer: 1,
-                place: place(at),
-            },
-            FieldFault::Value(at) => Refusal {
-                number: 4,
-                layer: 1,
-                place: place(at),
-            },
+// The three numbers that are told of the fault.
+impl From<FieldFault> for Refusal {
+    ghost from_gives = { λ fault r. r ≡ field_refusal fault };
+
+    fn from(fault: FieldFault) -> Refusal {
+        let (number, at) = match fault {
+            FieldFault::Version => (1, 0),
+            FieldFault::Length(given) => (2, given),
+            FieldFault::Misfit(at) => (3, at),
+            FieldFault::Value(at) => (4, at),
+        };
+        Refusal {
+            number,
+            layer: 1,
+            place: place(at),
         }
     }
 }

@@ -8,9 +8,9 @@ mod limits;
 mod record;
 
 pub use bytes::{byte, two};
-pub use checks::{check_end, field, header};
+pub use checks::{check_below, check_end, field, header};
 pub use fault::FieldFault;
 pub use limits::{
     BRANCH_KINDS, BRANCHES, LINES, OPERATIONS, PERSONS, PIECE_KINDS, PIECES, ROLES, SETS,
 };
-pub use record::{Record, check_list, read_list};
+pub use record::{Record, check_list, offset, read_list};

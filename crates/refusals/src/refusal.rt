@@ -14,5 +14,5 @@ pub struct Refusal {
 pub fn place(at: usize) -> u16
     ensures { result ≡ place_of at }
 {
-    if at < 65535 { at as u16 } else { 65535 }
+    u16::try_from(at).unwrap_or(u16::MAX)
 }

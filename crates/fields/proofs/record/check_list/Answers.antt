@@ -9,8 +9,8 @@ loop-number-preserved g c =
     let bytes = c.args.bytes.now in
     let scope = c.args.scope in
     let number = c.loop-number.number in
-    every_more (λ k. g.T.Record.checked bytes scope (c.args.first + g.T.Record.size * k) k) number c.loop-number.invariant
-    (ap (λ at. g.T.Record.checked bytes scope at number) (sym c.place.ensures) ∙ sym c.in_ok-check.ensures)
+    every_more (λ k. g.T.Record.checked bytes scope (c.args.first + g.T.Record.WIDTH * k) k) number c.loop-number.invariant
+    (ap (λ at. g.T.Record.checked bytes scope at number) (sym c.offset.ensures) ∙ sym c.in_ok-check.ensures)
 
 pub returns-in_err-check : goal.returns-in_err-check
 returns-in_err-check g c =
@@ -18,5 +18,5 @@ returns-in_err-check g c =
     let bytes = c.args.bytes.now in
     let scope = c.args.scope in
     let number = c.loop-number.number in
-    rw (p.1, p.2) (sym (every_stops (λ k. g.T.Record.checked bytes scope (c.args.first + g.T.Record.size * k) k) _ c.args.count number (omega arith) c.loop-number.invariant
-    (ap (λ at. g.T.Record.checked bytes scope at number) (sym c.place.ensures) ∙ sym c.in_err-check.ensures)))
+    rw (p.1, p.2) (sym (every_stops (λ k. g.T.Record.checked bytes scope (c.args.first + g.T.Record.WIDTH * k) k) _ c.args.count number (omega arith) c.loop-number.invariant
+    (ap (λ at. g.T.Record.checked bytes scope at number) (sym c.offset.ensures) ∙ sym c.in_err-check.ensures)))
