@@ -1,7 +1,7 @@
 -- A loop through the records, left at the first that is refused.
 use Rattle.std.proofs.Common.{◌+◌, ◌*◌, sym, ap, ◌∙◌, arith}
 use Rattle.std.proofs.lemmas.Result.{err_from_is_err_and}
-use Rattle.refusals.proofs.Rows.{every_more, every_stops}
+use Rattle.refusals.proofs.Rows.{every_stops}
 use Rattle.fields.proofs.record.check_list.Goals as goal
 
 pub returns-in_err-check : goal.returns-in_err-check
