@@ -5,6 +5,7 @@ ghost use Rattle.refusals.specs.Checks.{verdict};
 ghost use Rattle.orders.specs.ParentsFacts.{parents_lower, tree_antisymmetric, tree_inside, tree_reflexive, tree_transitive};
 
 use crate::order::Order;
+use refusals::must;
 
 // The most members that an order by parents has.
 pub const MOST_PARENTS: usize = 64;
@@ -42,13 +43,9 @@ impl Parents {
         ensures holds { IfOk result (λ o. (o.parents ≡ parents) × (o.count ≡ count)) }
         ensures top { IfOk result (λ o. (b : ℕ) → b < count → tree_above o.parents o.count 0 b ≡ true) }
     {
-        if count as usize > MOST_PARENTS {
-            return Err(ParentsFault::TooMany);
-        }
+        must(count as usize <= MOST_PARENTS, ParentsFault::TooMany)?;
         for m in 0..count {
-            if !stands_lower(m, parents[m as usize]) {
-                return Err(ParentsFault::NotLower(m));
-            }
+            must(stands_lower(m, parents[m as usize]), ParentsFault::NotLower(m))?;
         }
         Ok(Parents { parents, count })
     }

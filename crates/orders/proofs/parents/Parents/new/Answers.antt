@@ -1,36 +1,21 @@
--- A loop through the members' checks, stopped at the first that refuses.
-use Rattle.std.proofs.Common.{◌≡◌, is_ok, Ok, Err, sym, refl, ap, ◌∙◌, arith, rules}
-use Rattle.orders.specs.Limits.{limit_met}
+-- A loop through the members' checks, left at the first that refuses.
+use Rattle.std.proofs.Common.{sym, ap, ◌∙◌, arith, rules, is_ok}
+use Rattle.std.proofs.lemmas.Result.{err_from_is_err_and}
+use Rattle.orders.specs.Parents.{parent_check}
 use Rattle.orders.specs.ParentsFacts.{parents_lower, tree_top}
+use Rattle.orders.specs.declared.parents.ParentsFault.TheVariants.{NotLower}
 use Rattle.orders.proofs.parents.Parents.new.Goals as goal
-use Rattle.orders.specs.Parents.{parent_check, parents_checked}
-use Rattle.orders.specs.declared.parents.ParentsFault.TheVariants.{NotLower, TooMany}
-use Rattle.refusals.proofs.Rows.{every_more, every_stops}
-use Rattle.refusals.specs.Checks.{every}
+use Rattle.refusals.proofs.Rows.{every_stops}
+use Rattle.refusals.specs.Checks.{every, must, then}
 
-pub loop-m-preserved : goal.loop-m-preserved
-loop-m-preserved c =
-    let here : parent_check c.args.parents c.loop-m.m ≡ Ok tt = search rules in
-    every_more (parent_check c.args.parents) c.loop-m.m c.loop-m.invariant here
-
-pub returns-then-not-stands_lower : goal.returns-then-not-stands_lower
-returns-then-not-stands_lower c =
+pub returns-in_err-must-2-clause-answer : goal.returns-in_err-must-2-clause-answer
+returns-in_err-must-2-clause-answer c =
+    let p = err_from_is_err_and c.from_residual-in_err-must-2.result c.from_residual-in_err-must-2.ensures.1 in
     let check = parent_check c.args.parents in
-    let here : parent_check c.args.parents c.loop-m.m ≡ Err (NotLower c.loop-m.m) = search rules in
-    record {
-      answer = sym
-          (limit_met c.args.count 64 TooMany (every c.args.count check) (omega arith)
-          ∙ every_stops check (NotLower c.loop-m.m) c.args.count c.loop-m.m (omega arith) c.loop-m.invariant here);
-      holds = tt;
-      top = tt;
-    }
+    let m = c.loop-m.m in
+    rw (p.1, p.2) (sym
+      (ap (λ limit. then limit (every c.args.count check)) (sym c.in_ok-must.ensures)
+      ∙ every_stops check _ c.args.count m (omega arith) c.loop-m.invariant (ap (λ lower. must lower (NotLower m)) (sym c.stands_lower.ensures) ∙ sym c.in_err-must-2.ensures)))
 
-pub returns : goal.returns
-returns c =
-    let passed : parents_checked c.args.parents c.args.count ≡ Ok tt =
-    limit_met c.args.count 64 TooMany (every c.args.count (parent_check c.args.parents)) (omega arith) ∙ search rules in
-    record {
-      answer = sym passed;
-      holds = (refl, refl);
-      top = tree_top c.args.parents c.args.count (parents_lower c.args.parents c.args.count (ap is_ok passed));
-    }
+pub returns-clause-top : goal.returns-clause-top
+returns-clause-top c = tree_top c.args.parents c.args.count (parents_lower c.args.parents c.args.count (search rules))

@@ -1,30 +1,17 @@
--- A loop through the members' checks, stopped at the first that refuses.
-use Rattle.std.proofs.Common.{◌≡◌, Ok, Err, sym, refl, ◌∙◌, arith, rules}
-use Rattle.orders.specs.Limits.{limit_met}
+-- A loop through the members' checks, left at the first that refuses.
+use Rattle.std.proofs.Common.{sym, ap, ◌∙◌, arith}
+use Rattle.std.proofs.lemmas.Result.{err_from_is_err_and}
+use Rattle.orders.specs.Rows.{row_check}
+use Rattle.orders.specs.declared.rows.RowsFault.TheVariants.{Row}
 use Rattle.orders.proofs.rows.Rows.new.Goals as goal
-use Rattle.orders.specs.Rows.{row_check, rows_checked}
-use Rattle.orders.specs.declared.rows.RowsFault.TheVariants.{Row, TooMany}
-use Rattle.refusals.proofs.Rows.{every_more, every_stops}
-use Rattle.refusals.specs.Checks.{every}
+use Rattle.refusals.proofs.Rows.{every_stops}
+use Rattle.refusals.specs.Checks.{every, must, then}
 
-pub loop-q-preserved : goal.loop-q-preserved
-loop-q-preserved c =
-    let here : row_check 16 c.args.rows c.args.count c.loop-q.q ≡ Ok tt = search rules in
-    every_more (row_check 16 c.args.rows c.args.count) c.loop-q.q c.loop-q.invariant here
-
-pub returns-then-not-row_stands : goal.returns-then-not-row_stands
-returns-then-not-row_stands c =
+pub returns-in_err-must-2-clause-answer : goal.returns-in_err-must-2-clause-answer
+returns-in_err-must-2-clause-answer c =
+    let p = err_from_is_err_and c.from_residual-in_err-must-2.result c.from_residual-in_err-must-2.ensures.1 in
     let check = row_check 16 c.args.rows c.args.count in
-    let here : row_check 16 c.args.rows c.args.count c.loop-q.q ≡ Err (Row c.loop-q.q) = search rules in
-    record {
-      answer = sym
-          (limit_met c.args.count 16 TooMany (every c.args.count check) (omega arith)
-          ∙ every_stops check (Row c.loop-q.q) c.args.count c.loop-q.q (omega arith) c.loop-q.invariant here);
-      holds = tt;
-    }
-
-pub returns : goal.returns
-returns c =
-    let passed : rows_checked 16 c.args.rows c.args.count ≡ Ok tt =
-    limit_met c.args.count 16 TooMany (every c.args.count (row_check 16 c.args.rows c.args.count)) (omega arith) ∙ search rules in
-    record { answer = sym passed; holds = (refl, refl) }
+    let q = c.loop-q.q in
+    rw (p.1, p.2) (sym
+      (ap (λ limit. then limit (every c.args.count check)) (sym c.in_ok-must.ensures)
+      ∙ every_stops check _ c.args.count q (omega arith) c.loop-q.invariant (ap (λ stands. must stands (Row q)) (sym c.row_stands.ensures) ∙ sym c.in_err-must-2.ensures)))
