@@ -45,7 +45,10 @@ impl Parents {
     {
         must(count as usize <= MOST_PARENTS, ParentsFault::TooMany)?;
         for m in 0..count {
-            must(stands_lower(m, parents[m as usize]), ParentsFault::NotLower(m))?;
+            must(
+                stands_lower(m, parents[m as usize]),
+                ParentsFault::NotLower(m),
+            )?;
         }
         Ok(Parents { parents, count })
     }

@@ -1,6 +1,6 @@
 // An order kept as a row of bits for each member.
 ghost use Rattle.std.specs.Prelude.{◌≡◌, true, is_ok, IfOk, slice_index};
-ghost use Rattle.orders.specs.Rows.{bit_covered, covers, row_above, row_stands, rows_checked, stands_over, stands_over_all};
+ghost use Rattle.orders.specs.Rows.{covers, row_above, row_stands, rows_checked, stands_over, stands_over_all};
 ghost use Rattle.refusals.specs.Checks.{verdict};
 ghost use Rattle.orders.specs.RowsFacts.{above_inside, rows_antisymmetric, rows_reflexive, rows_transitive};
 
@@ -100,12 +100,5 @@ fn stands_over(row: u16, q: u8, other: u16, p: u8) -> bool
 fn row_covers(upper: u16, lower: u16) -> bool
     ensures { result ≡ covers 16 upper lower }
 {
-    (0..MOST_ROWS as u8).all(|k| bit_covered(upper, lower, k))
-}
-
-// Tells whether the upper row names what the lower names at `k`, if anything.
-fn bit_covered(upper: u16, lower: u16, k: u8) -> bool
-    ensures { result ≡ bit_covered upper lower k }
-{
-    !has_bit(lower, k) || has_bit(upper, k)
+    (0..MOST_ROWS as u8).all(|k| !has_bit(lower, k) || has_bit(upper, k))
 }

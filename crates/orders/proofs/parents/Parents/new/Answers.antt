@@ -1,5 +1,5 @@
 -- A loop through the members' checks, left at the first that refuses.
-use Rattle.std.proofs.Common.{sym, ap, ◌∙◌, arith, rules, is_ok}
+use Rattle.std.proofs.Common.{sym, ap, ◌∙◌, arith, rules}
 use Rattle.std.proofs.lemmas.Result.{err_from_is_err_and}
 use Rattle.orders.specs.Parents.{parent_check}
 use Rattle.orders.specs.ParentsFacts.{parents_lower, tree_top}
@@ -14,8 +14,8 @@ returns-in_err-must-2-clause-answer c =
     let check = parent_check c.args.parents in
     let m = c.loop-m.m in
     rw (p.1, p.2) (sym
-      (ap (λ limit. then limit (every c.args.count check)) (sym c.in_ok-must.ensures)
-      ∙ every_stops check _ c.args.count m (omega arith) c.loop-m.invariant (ap (λ lower. must lower (NotLower m)) (sym c.stands_lower.ensures) ∙ sym c.in_err-must-2.ensures)))
+    (ap (λ limit. then limit (every c.args.count check)) (sym c.in_ok-must.ensures)
+    ∙ every_stops check _ c.args.count m (omega arith) c.loop-m.invariant (ap (λ lower. must lower (NotLower m)) (sym c.stands_lower.ensures) ∙ sym c.in_err-must-2.ensures)))
 
 pub returns-clause-top : goal.returns-clause-top
 returns-clause-top c = tree_top c.args.parents c.args.count (parents_lower c.args.parents c.args.count (search rules))

@@ -13,5 +13,5 @@ returns-in_err-must-2-clause-answer c =
     let check = row_check 16 c.args.rows c.args.count in
     let q = c.loop-q.q in
     rw (p.1, p.2) (sym
-      (ap (λ limit. then limit (every c.args.count check)) (sym c.in_ok-must.ensures)
-      ∙ every_stops check _ c.args.count q (omega arith) c.loop-q.invariant (ap (λ stands. must stands (Row q)) (sym c.row_stands.ensures) ∙ sym c.in_err-must-2.ensures)))
+    (ap (λ limit. then limit (every c.args.count check)) (sym c.in_ok-must.ensures)
+    ∙ every_stops check _ c.args.count q (omega arith) c.loop-q.invariant (ap (λ stands. must stands (Row q)) (sym c.row_stands.ensures) ∙ sym c.in_err-must-2.ensures)))
