@@ -14,7 +14,7 @@ use crate::role::Role;
 use crate::set::Set;
 use fields::{
     BRANCHES, FieldFault, LINES, PIECES, ROLES, Record, SETS, byte, check_end, check_list, field,
-    header, read_list, two,
+    header, offset, read_list, two,
 };
 use orders::{Rows, RowsFault};
 use refusals::must;
@@ -22,21 +22,14 @@ use refusals::must;
 // The longest body that a length of two bytes can tell.
 const LONGEST: u16 = 65535;
 
-// The offset of a record in a list of records of so many bytes.
-fn offset(list: Span, size: u8, number: u16) -> u32
-    ensures { result ≡ offset_of list size number }
-{
-    list.first as u32 + size as u32 * number as u32
-}
-
 // Tells whether the principal is a role and may stand at the top.
 fn principal_stands(bytes: &[u8], layout: Layout) -> bool
     ensures { result ≡ principal_stands bytes.now layout }
 {
     let principal = byte(bytes, layout.principal as usize) as u16;
-    let role = Role::read(bytes, offset(layout.roles, 4, principal));
+    let role = Role::read(bytes, offset::<Role>(layout.roles.first, principal));
     principal < layout.roles.count
-        && role.may_stand(Branch::read(bytes, offset(layout.branches, 2, 0)))
+        && role.may_stand(Branch::read(bytes, offset::<Branch>(layout.branches.first, 0)))
 }
 
 // A count within its bounds.
@@ -95,7 +88,7 @@ fn check_pieces(bytes: &[u8], layout: Layout) -> Result<(), FieldFault>
     check_list::<Piece>(bytes, layout, layout.pieces.first, layout.pieces.count)?;
     check_end(
         bytes,
-        offset(layout.pieces, 2, layout.pieces.count) as usize,
+        offset::<Piece>(layout.pieces.first, layout.pieces.count) as usize,
     )
 }
 
@@ -120,7 +113,7 @@ fn check_rows(bytes: &[u8], layout: Layout) -> Result<(), RowsFault>
 fn line_in(bytes: &[u8], lines: Span, number: u16) -> Line
     ensures { result ≡ line_in bytes.now lines number }
 {
-    Line::read(bytes, offset(lines, 6, number))
+    Line::read(bytes, offset::<Line>(lines.first, number))
 }
 
 // Line `k` has another pair than line `j`.
@@ -128,7 +121,10 @@ fn check_pair(bytes: &[u8], lines: Span, k: u16, j: u16) -> Result<(), PlanFault
     ensures { result ≡ pair_apart bytes.now lines k j }
 {
     let same = line_in(bytes, lines, j).same_pair(line_in(bytes, lines, k));
-    must(!same, PlanFault::Repeated(offset(lines, 6, k) as usize))
+    must(
+        !same,
+        PlanFault::Repeated(offset::<Line>(lines.first, k) as usize),
+    )
 }
 
 // Line `k` repeats the pair of no earlier line.

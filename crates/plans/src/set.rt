@@ -1,11 +1,12 @@
 // A set of roles of which one person may have only so many at one branch.
+ghost use Rattle.std.proofs.Common.{rules};
 ghost use Rattle.plans.specs.Set.{set_checked, set_at, no_set};
 
 use crate::layout::Layout;
 use fields::{FieldFault, Record, byte, field, two};
 use orders::names_members;
 
-#[derive(Clone, Copy)]
+#[derive(Clone, Copy, Default)]
 pub struct Set {
     // bit i: role i is in the set
     pub roles: u16,
@@ -16,17 +17,15 @@ pub struct Set {
 impl Record for Set {
     type Scope = Layout;
 
-    ghost size = { 3 };
+    const WIDTH: u8 = 3;
+
+    ghost WIDTH = { 3 };
 
     ghost checked = { set_checked };
 
     ghost made = { set_at };
 
     ghost empty = { no_set };
-
-    fn width() -> u8 {
-        3
-    }
 
     fn check(bytes: &[u8], layout: Layout, at: u32, _number: u16) -> Result<(), FieldFault> {
         let at = at as usize;
@@ -49,7 +48,5 @@ impl Record for Set {
         }
     }
 
-    fn blank() -> Set {
-        Set { roles: 0, bound: 0 }
-    }
+    ghost blank = { Prim.search rules };
 }
