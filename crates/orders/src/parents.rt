@@ -38,6 +38,7 @@ fn stands_lower(member: u8, parent: u8) -> bool
 
 impl Parents {
     // Makes the order of the first `count` parents, or tells what is wrong with them.
+    #[tactic(auto, using(refusals::proofs::Rows::every_stops))]
     pub fn new(parents: [u8; MOST_PARENTS], count: u8) -> Result<Parents, ParentsFault>
         ensures answer { verdict result ≡ parents_checked parents count }
         ensures holds { IfOk result (λ o. (o.parents ≡ parents) × (o.count ≡ count)) }

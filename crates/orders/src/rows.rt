@@ -31,6 +31,7 @@ pub enum RowsFault {
 
 impl Rows {
     // Makes the order of the first `count` rows, or tells what is wrong with them.
+    #[tactic(auto, using(refusals::proofs::Rows::every_stops))]
     pub fn new(rows: [u16; MOST_ROWS], count: u8) -> Result<Rows, RowsFault>
         ensures answer { verdict result ≡ rows_checked 16 rows count }
         ensures holds { IfOk result (λ o. (o.rows ≡ rows) × (o.count ≡ count)) }
