@@ -61,7 +61,7 @@ impl PlanFile<'_> {
             self.bytes,
             list.at as usize,
             width,
-            least <= count && count <= most,
+            (least..=most).contains(&count),
         )
     }
 
@@ -70,6 +70,13 @@ impl PlanFile<'_> {
         ensures { result ≡ every list.count (λ k. T.Record.checked self.now.bytes.now self.now.layout (list.first + T.WIDTH * k) k) }
     {
         check_list::<T>(self.bytes, self.layout, list.first, list.count)
+    }
+
+    // Reads the records of a list into an array; the places behind the last one get the empty record.
+    fn records<T: Record, const N: usize>(&self, list: Span) -> [T; N]
+        ensures { result ≡ filled N list.count T.Record.empty (λ k. T.Record.made self.now.bytes.now (list.first + T.WIDTH * k)) }
+    {
+        read_list(self.bytes, list.first, list.count)
     }
 
     // The header, the branches, the roles and the principal.
@@ -130,8 +137,8 @@ impl PlanFile<'_> {
         ensures { result ≡ rows_read self.now.bytes.now self.now.layout }
     {
         let Layout { roles, .. } = self.layout;
-        let read = read_list::<Role, ROLES>(self.bytes, roles.first, roles.count);
-        Rows::new(rows_of(&read), byte(self.bytes, roles.at as usize))?;
+        let rows = rows_of(&self.records(roles));
+        Rows::new(rows, byte(self.bytes, roles.at as usize))?;
         Ok(())
     }
 
@@ -201,18 +208,18 @@ impl PlanFile<'_> {
             pieces,
         } = self.layout;
         *into = Plan {
-            branches: read_list(bytes, branches.first, branches.count),
+            branches: self.records(branches),
             branch_count: byte(bytes, branches.at as usize),
-            roles: read_list(bytes, roles.first, roles.count),
+            roles: self.records(roles),
             role_count: byte(bytes, roles.at as usize),
             principal: byte(bytes, principal as usize),
-            grants: read_list(bytes, grants.first, grants.count),
+            grants: self.records(grants),
             grant_count: byte(bytes, grants.at as usize),
-            takes: read_list(bytes, takes.first, takes.count),
+            takes: self.records(takes),
             take_count: byte(bytes, takes.at as usize),
-            sets: read_list(bytes, sets.first, sets.count),
+            sets: self.records(sets),
             set_count: byte(bytes, sets.at as usize),
-            pieces: read_list(bytes, pieces.first, pieces.count),
+            pieces: self.records(pieces),
             piece_count: two(bytes, pieces.at as usize),
         };
     }

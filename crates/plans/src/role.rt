@@ -45,7 +45,7 @@ impl Record for Role {
         field(bytes, at, 2, true)?;
         field(bytes, at + 2, 1, true)?;
         let limit = byte(bytes, at + 3);
-        field(bytes, at + 3, 1, 1 <= limit && limit <= PERSONS)
+        field(bytes, at + 3, 1, (1..=PERSONS).contains(&limit))
     }
 
     fn read(bytes: &[u8], at: u32) -> Role {

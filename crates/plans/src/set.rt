@@ -32,12 +32,8 @@ impl Record for Set {
         let roles = two(bytes, at);
         field(bytes, at, 2, names_members(roles, layout.roles.count))?;
         let bound = byte(bytes, at + 2);
-        field(
-            bytes,
-            at + 2,
-            1,
-            2 <= bound && bound as u32 <= roles.count_ones(),
-        )
+        let allowed = (2..=roles.count_ones()).contains(&u32::from(bound));
+        field(bytes, at + 2, 1, allowed)
     }
 
     fn read(bytes: &[u8], at: u32) -> Set {
