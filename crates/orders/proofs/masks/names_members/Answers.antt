@@ -2,7 +2,7 @@ use Rattle.std.proofs.Common.{rules, tests, refl, ◌∙◌}
 use Rattle.std.proofs.lemmas.Iterator.{YieldsList-from_range}
 use Rattle.std.proofs.lemmas.Iterator.Search.{all_from_yields_List}
 use Rattle.refusals.proofs.Rows.{all_range}
-use Rattle.orders.specs.Masks.{bit_of_member, has_bit, names_members}
+use Rattle.orders.specs.Masks.{bit_of_member, names_members}
 use Rattle.orders.proofs.masks.names_members.Goals as goal
 
 pub returns : goal.returns

@@ -1,11 +1,16 @@
--- A loop through the tests, stopped at the first that fails.
-use Rattle.std.proofs.Common.{get_or, sym, arith, rules}
-use Rattle.orders.proofs.rows.stands_over_all.Goals as goal
+use Rattle.std.proofs.Common.{ℕ, ◌+◌, rules, tests, refl, get_or, ap, ◌∙◌, arith}
+use Rattle.std.proofs.lemmas.Iterator.{YieldsList-from_range}
+use Rattle.std.proofs.lemmas.Iterator.Search.{all_from_yields_List}
+use Rattle.refusals.proofs.Rows.{all_range, all_same}
 use Rattle.orders.specs.Rows.{stands_over}
-use Rattle.refusals.proofs.Rows.{all_more, all_stops}
+use Rattle.orders.proofs.rows.stands_over_all.Goals as goal
 
-pub loop-p-preserved : goal.loop-p-preserved
-loop-p-preserved c = all_more (λ p. stands_over 16 (get_or c.args.rows.now c.args.q 0) c.args.q (get_or c.args.rows.now p 0) p) c.loop-p.p c.loop-p.invariant (search rules)
-
-pub returns-then-not-stands_over : goal.returns-then-not-stands_over
-returns-then-not-stands_over c = sym (all_stops (λ p. stands_over 16 (get_or c.args.rows.now c.args.q 0) c.args.q (get_or c.args.rows.now p 0) p) c.args.count c.loop-p.p (omega arith) (search rules))
+pub returns : goal.returns
+returns c =
+    let rows = c.args.rows.now in
+    let q = c.args.q in
+    let n = c.args.count in
+    let test = λ (p : ℕ). stands_over 16 (get_or rows q 0) q (get_or rows p 0) p in
+    all_from_yields_List test _ _ c.all.result c.all.ensures.ran (YieldsList-from_range 0 n n refl (omega arith)) (λ x b q k. search (rules, tests))
+    ∙ all_range test 0 n
+    ∙ all_same (λ k. test (0 + k)) test n (λ k h. ap test (omega arith))
