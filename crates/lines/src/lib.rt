@@ -2,7 +2,6 @@
 #![tactic(auto)]
 
 mod line;
-mod number;
 mod word;
 
 pub use line::{LINE, write};

@@ -4,8 +4,8 @@ ghost use Rattle.std.specs.Prelude.{◌≡◌, ◌+◌, ◌≤◌, ◌∷◌, �
 ghost use Rattle.lines.specs.Line.{line_of};
 ghost use Rattle.std.proofs.Math.Seq.{paste};
 
-use crate::number::{WIDEST, spaced};
 use crate::word::Word;
+use itoa::Buffer;
 
 // The bytes of the longest line, "throughout 65535 65535 65535" and its newline.
 pub const LINE: usize = 29;
@@ -28,9 +28,8 @@ fn lay_number(line: &mut [u8], at: usize, number: u16) -> usize
     ensures bytes { line.new ≡ paste line.old at (32 ∷ decimal number) (length (32 ∷ decimal number)) }
     ensures fits { result ≤ at + 6 }
 {
-    let mut memory = [0; WIDEST];
-    let start = spaced(number, &mut memory);
-    lay(line, at, &memory[start..WIDEST])
+    let digits_at = lay(line, at, b" ");
+    lay(line, digits_at, Buffer::new().format(number).as_bytes())
 }
 
 // Writes the line of a message from the start of the memory, and says how many bytes it has; the bytes behind it stay.
