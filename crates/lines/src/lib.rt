@@ -4,5 +4,5 @@
 mod line;
 mod word;
 
-pub use line::{LINE, write};
+pub use line::{LINE, write, write_refusal};
 pub use word::Word;
