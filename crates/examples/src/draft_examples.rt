@@ -41,7 +41,7 @@ fn post_refused(memory: &mut [u8], post: Post) -> Result<Option<Refusal>, Fail> 
         Err(back) => {
             let (draft, fault) = back;
             draft.release();
-            Ok(Some(fault.refusal()))
+            Ok(Some(Refusal::from(fault)))
         }
     }
 }
@@ -56,7 +56,7 @@ fn call_refused(memory: &mut [u8], call: Call) -> Result<Option<Refusal>, Fail> 
         Err(back) => {
             let (draft, fault) = back;
             draft.release();
-            Ok(Some(fault.refusal()))
+            Ok(Some(Refusal::from(fault)))
         }
     }
 }
@@ -68,7 +68,7 @@ fn begin_refused(memory: &mut [u8], person: u8) -> Option<Refusal> {
             draft.release();
             None
         }
-        Err(back) => Some(back.1.refusal()),
+        Err(back) => Some(Refusal::from(back.1)),
     }
 }
 
@@ -136,7 +136,7 @@ fn a_fifth_post_is_refused_before_anything_else(rt: HostRuntime) -> Result<(), F
             let (draft, fault) = back;
             draft.release();
             assert_eq!(rt;
-                fault.refusal(),
+                Refusal::from(fault),
                 Refusal {
                     number: 4,
                     layer: 1,

@@ -8,7 +8,7 @@ fn refused(bytes: &[u8]) -> Option<Refusal> {
     let mut message = blank();
     match read(bytes, &mut message) {
         Ok(()) => None,
-        Err(fault) => Some(fault.refusal()),
+        Err(fault) => Some(Refusal::from(fault)),
     }
 }
 
@@ -50,7 +50,7 @@ fn small_memory_and_large_numbers_are_refused(rt: HostRuntime) -> Result<(), Fai
     match write(&message, &mut memory[0..16]) {
         Ok(_) => return Err(Fail::new("16 bytes are too few")),
         Err(fault) => assert_eq!(rt;
-            fault.refusal(),
+            Refusal::from(fault),
             Refusal {
                 number: 2,
                 layer: 1,
@@ -63,7 +63,7 @@ fn small_memory_and_large_numbers_are_refused(rt: HostRuntime) -> Result<(), Fai
         Ok(_) => Err(Fail::new("there is no person 64")),
         Err(fault) => {
             assert_eq!(rt;
-                fault.refusal(),
+                Refusal::from(fault),
                 Refusal {
                     number: 4,
                     layer: 1,

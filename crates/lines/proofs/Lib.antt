@@ -1,3 +1,2 @@
 -- The lemmas that the proofs of several steps share.
-mod Digits
 mod Laid

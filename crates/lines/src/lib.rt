@@ -2,8 +2,7 @@
 #![tactic(auto)]
 
 mod line;
-mod number;
 mod word;
 
-pub use line::{LINE, write};
+pub use line::{LINE, write, write_refusal};
 pub use word::Word;

@@ -1,11 +1,12 @@
 // A whole line, written into memory that the caller lends.
 
 ghost use Rattle.std.specs.Prelude.{◌≡◌, ◌+◌, ◌≤◌, ◌∷◌, ◌++◌, length, drop, decimal};
-ghost use Rattle.lines.specs.Line.{line_of};
+ghost use Rattle.lines.specs.Line.{line_of, refusal_line};
 ghost use Rattle.std.proofs.Math.Seq.{paste};
 
-use crate::number::{WIDEST, spaced};
 use crate::word::Word;
+use itoa::Buffer;
+use refusals::Refusal;
 
 // The bytes of the longest line, "throughout 65535 65535 65535" and its newline.
 pub const LINE: usize = 29;
@@ -28,9 +29,8 @@ fn lay_number(line: &mut [u8], at: usize, number: u16) -> usize
     ensures bytes { line.new ≡ paste line.old at (32 ∷ decimal number) (length (32 ∷ decimal number)) }
     ensures fits { result ≤ at + 6 }
 {
-    let mut memory = [0; WIDEST];
-    let start = spaced(number, &mut memory);
-    lay(line, at, &memory[start..WIDEST])
+    let digits_at = lay(line, at, b" ");
+    lay(line, digits_at, Buffer::new().format(number).as_bytes())
 }
 
 // Writes the line of a message from the start of the memory, and says how many bytes it has; the bytes behind it stay.
@@ -44,4 +44,19 @@ pub fn write(word: Word, first: u16, second: u16, third: u16, line: &mut [u8; LI
     let after_second = lay_number(line, after_first, second);
     let after_third = lay_number(line, after_second, third);
     lay(line, after_third, b"\n")
+}
+
+// Writes the line of a refusal from the start of the memory: the word, and then the refusal's number, layer and place.
+pub fn write_refusal(word: Word, refusal: Refusal, line: &mut [u8; LINE]) -> usize
+    ensures length { result ≡ length (refusal_line word refusal) }
+    ensures bytes { line.new ≡ refusal_line word refusal ++ drop (length (refusal_line word refusal)) line.old }
+    ensures fits { result ≤ 29 }
+{
+    write(
+        word,
+        refusal.number as u16,
+        refusal.layer as u16,
+        refusal.place,
+        line,
+    )
 }

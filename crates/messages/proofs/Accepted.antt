@@ -53,6 +53,9 @@ within_bounds lower n upper e =
     (leb-true lower n p.0, leb-true n upper p.1)
 
 -- one to four posts
+pub fields_few : (b : List ℕ) (number count : ℕ) → in_order (field_steps b number count) ≡ Ok tt → (1 ≤ count) × (count ≤ 4)
+fields_few b number count e = within_bounds 1 count 4 (field_holds b 5 1 _ (all_passed (field_steps b number count) e).1.1.1.0)
+
 pub count_bounds : (b : List ℕ) → message_result b ≡ Ok tt → (1 ≤ byte_at b 5) × (byte_at b 5 ≤ 4)
 count_bounds b e = within_bounds 1 (byte_at b 5) 4 (field_holds b 5 1 _ (fields_passed b e).1.1.1.0)
 

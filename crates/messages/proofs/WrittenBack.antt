@@ -154,7 +154,7 @@ body_back b bytes e =
     ∙ sym (drop_more b 3 0 (omega arith) ∙ ap (λ xs. number ∷ xs) (drop_more b 4 0 (omega arith) ∙ ap (λ xs. byte_at b 4 ∷ xs) (drop_more b 5 0 (omega arith))))
 
 -- the records of an array are those that it was filled with
-filled_front : {T : Type 0} (size count : ℕ) (empty : T) (f : ℕ → T) → count ≤ size → take count (filled size count empty f) ≡ map f (range_with_len 0 count)
+pub filled_front : {T : Type 0} (size count : ℕ) (empty : T) (f : ℕ → T) → count ≤ size → take count (filled size count empty f) ≡ map f (range_with_len 0 count)
 unfolding filled
 filled_front size count empty f few =
     let all = filled size count empty f in

@@ -2,8 +2,24 @@
 use Rattle.std.specs.Prelude.{ℕ}
 use Rattle.lines.specs.declared.word.Word.{Word}
 use Rattle.lines.specs.declared.word.Word.TheVariants as word
+use Rattle.messages.specs.declared.kind.CallKind.{CallKind}
+use Rattle.messages.specs.declared.kind.CallKind.TheVariants as kind
 use Rattle.messages.specs.declared.call.Call.{Call}
 use Rattle.messages.specs.declared.call.Call.TheVariants.{Decide, Grant, Take, Throughout, Enrol, Strike, Open, Close, Permit, Forbid, Sit}
+
+-- the number of a kind of call
+abbrev pub kind_number : CallKind → ℕ
+kind_number kind.Decide = 1
+kind_number kind.Grant = 2
+kind_number kind.Take = 3
+kind_number kind.Throughout = 4
+kind_number kind.Enrol = 5
+kind_number kind.Strike = 6
+kind_number kind.Open = 7
+kind_number kind.Close = 8
+kind_number kind.Permit = 9
+kind_number kind.Forbid = 10
+kind_number kind.Sit = 11
 
 -- the number by which a message names the call
 abbrev pub number_of : Call → ℕ

@@ -1,102 +1,117 @@
 // The arguments of a call as they stand in bytes, behind the posts.
 ghost use Rattle.std.specs.Prelude.{◌≡◌};
 ghost use Rattle.messages.specs.Arguments.{arguments_checked, arguments_width, call_at};
+ghost use Rattle.messages.specs.Calls.{kind_number};
+ghost use Rattle.messages.specs.Numbers.{piece_checked};
 
 use crate::call::Call;
-use crate::numbers::{
-    check_branch, check_kind, check_operation, check_person, check_piece, check_role,
+use crate::kind::CallKind;
+use fields::{
+    BRANCHES, FieldFault, OPERATIONS, PERSONS, PIECE_KINDS, PIECES, ROLES, byte, check_below,
+    field, two,
 };
-use fields::{FieldFault, byte, two};
 
-// How many bytes the arguments of the call with the number have.
-pub(crate) fn width(number: u8) -> u8
-    ensures { result ≡ arguments_width number }
+// How many bytes the arguments of a call of the kind have.
+pub(crate) fn width(kind: CallKind) -> u8
+    ensures { result ≡ arguments_width (kind_number kind) }
 {
-    match number {
-        1..=4 => 3,
-        5..=6 => 2,
-        7..=8 => 1,
-        9..=10 => 3,
-        _ => 0,
+    match kind {
+        CallKind::Decide
+        | CallKind::Grant
+        | CallKind::Take
+        | CallKind::Throughout
+        | CallKind::Permit
+        | CallKind::Forbid => 3,
+        CallKind::Enrol | CallKind::Strike => 2,
+        CallKind::Open | CallKind::Close => 1,
+        CallKind::Sit => 0,
     }
 }
 
-// Checks the arguments of the call with the number, from the offset on.
-pub(crate) fn check_arguments(bytes: &[u8], number: u8, at: u16) -> Result<(), FieldFault>
-    ensures { result ≡ arguments_checked bytes.now number at }
+// A piece stands in the two bytes at the offset.
+fn check_piece(bytes: &[u8], at: usize) -> Result<(), FieldFault>
+    ensures { result ≡ piece_checked bytes.now at }
+{
+    field(bytes, at, 2, (two(bytes, at) as usize) < PIECES)
+}
+
+// Checks the arguments of a call of the kind, from the offset on.
+pub(crate) fn check_arguments(bytes: &[u8], kind: CallKind, at: u32) -> Result<(), FieldFault>
+    ensures { result ≡ arguments_checked bytes.now (kind_number kind) at }
 {
     let first = at as usize;
-    match number {
-        1 => {
-            check_operation(bytes, first)?;
+    match kind {
+        CallKind::Decide => {
+            check_below(bytes, first, OPERATIONS as u16)?;
             check_piece(bytes, first + 1)
         }
-        2..=4 => {
-            check_person(bytes, first)?;
-            check_role(bytes, first + 1)?;
-            check_branch(bytes, first + 2)
+        CallKind::Grant | CallKind::Take | CallKind::Throughout => {
+            check_below(bytes, first, PERSONS as u16)?;
+            check_below(bytes, first + 1, ROLES as u16)?;
+            check_below(bytes, first + 2, BRANCHES as u16)
         }
-        5..=6 => {
-            check_person(bytes, first)?;
-            check_branch(bytes, first + 1)
+        CallKind::Enrol | CallKind::Strike => {
+            check_below(bytes, first, PERSONS as u16)?;
+            check_below(bytes, first + 1, BRANCHES as u16)
         }
-        7..=8 => check_branch(bytes, first),
-        9..=10 => {
-            check_operation(bytes, first)?;
-            check_kind(bytes, first + 1)?;
-            check_role(bytes, first + 2)
+        CallKind::Open | CallKind::Close => check_below(bytes, first, BRANCHES as u16),
+        CallKind::Permit | CallKind::Forbid => {
+            check_below(bytes, first, OPERATIONS as u16)?;
+            check_below(bytes, first + 1, PIECE_KINDS as u16)?;
+            check_below(bytes, first + 2, ROLES as u16)
         }
-        _ => Ok(()),
+        CallKind::Sit => Ok(()),
     }
 }
 
-// The call with the number, its arguments read from the offset on.
-pub(crate) fn read_call(bytes: &[u8], number: u8, at: u16) -> Call
-    ensures { result ≡ call_at bytes.now number at }
+// The call of the kind, its arguments read from the offset on.
+pub(crate) fn read_call(bytes: &[u8], kind: CallKind, at: u32) -> Call
+    ensures { result ≡ call_at bytes.now (kind_number kind) at }
 {
-    let first = byte(bytes, at as usize);
-    let second = byte(bytes, at as usize + 1);
-    let third = byte(bytes, at as usize + 2);
-    match number {
-        1 => Call::Decide {
+    let at = at as usize;
+    let first = byte(bytes, at);
+    let second = byte(bytes, at + 1);
+    let third = byte(bytes, at + 2);
+    match kind {
+        CallKind::Decide => Call::Decide {
             operation: first,
-            piece: two(bytes, at as usize + 1),
+            piece: two(bytes, at + 1),
         },
-        2 => Call::Grant {
+        CallKind::Grant => Call::Grant {
             person: first,
             role: second,
             branch: third,
         },
-        3 => Call::Take {
+        CallKind::Take => Call::Take {
             person: first,
             role: second,
             branch: third,
         },
-        4 => Call::Throughout {
+        CallKind::Throughout => Call::Throughout {
             person: first,
             role: second,
             branch: third,
         },
-        5 => Call::Enrol {
+        CallKind::Enrol => Call::Enrol {
             person: first,
             branch: second,
         },
-        6 => Call::Strike {
+        CallKind::Strike => Call::Strike {
             person: first,
             branch: second,
         },
-        7 => Call::Open { branch: first },
-        8 => Call::Close { branch: first },
-        9 => Call::Permit {
+        CallKind::Open => Call::Open { branch: first },
+        CallKind::Close => Call::Close { branch: first },
+        CallKind::Permit => Call::Permit {
             operation: first,
             kind: second,
             role: third,
         },
-        10 => Call::Forbid {
+        CallKind::Forbid => Call::Forbid {
             operation: first,
             kind: second,
             role: third,
         },
-        _ => Call::Sit,
+        CallKind::Sit => Call::Sit,
     }
 }

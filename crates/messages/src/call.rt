@@ -1,7 +1,8 @@
 // The calls, each with what it is about.
 ghost use Rattle.std.specs.Prelude.{◌≡◌};
-ghost use Rattle.messages.specs.Calls.{number_of, word_of};
+ghost use Rattle.messages.specs.Calls.{kind_number, number_of, word_of};
 
+use crate::kind::CallKind;
 use lines::Word;
 
 #[derive(Clone, Copy)]
@@ -20,23 +21,30 @@ pub enum Call {
 }
 
 impl Call {
+    // What kind of call it is.
+    pub(crate) fn kind(self) -> CallKind
+        ensures { kind_number result ≡ number_of self }
+    {
+        match self {
+            Call::Decide { .. } => CallKind::Decide,
+            Call::Grant { .. } => CallKind::Grant,
+            Call::Take { .. } => CallKind::Take,
+            Call::Throughout { .. } => CallKind::Throughout,
+            Call::Enrol { .. } => CallKind::Enrol,
+            Call::Strike { .. } => CallKind::Strike,
+            Call::Open { .. } => CallKind::Open,
+            Call::Close { .. } => CallKind::Close,
+            Call::Permit { .. } => CallKind::Permit,
+            Call::Forbid { .. } => CallKind::Forbid,
+            Call::Sit => CallKind::Sit,
+        }
+    }
+
     // The number by which a message names the call.
     pub fn number(self) -> u8
         ensures { result ≡ number_of self }
     {
-        match self {
-            Call::Decide { .. } => 1,
-            Call::Grant { .. } => 2,
-            Call::Take { .. } => 3,
-            Call::Throughout { .. } => 4,
-            Call::Enrol { .. } => 5,
-            Call::Strike { .. } => 6,
-            Call::Open { .. } => 7,
-            Call::Close { .. } => 8,
-            Call::Permit { .. } => 9,
-            Call::Forbid { .. } => 10,
-            Call::Sit => 11,
-        }
+        self.kind().into()
     }
 
     // The word that the call's line begins with.

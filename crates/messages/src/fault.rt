@@ -22,17 +22,17 @@ impl From<FieldFault> for MessageFault {
     }
 }
 
-impl MessageFault {
-    // The three numbers that are told of the fault.
-    pub fn refusal(self) -> Refusal
-        ensures { result ≡ message_refusal self }
-    {
-        match self {
-            MessageFault::Field(fault) => fault.refusal(),
+// The three numbers that are told of the fault.
+impl From<MessageFault> for Refusal {
+    ghost from_gives = { λ fault r. r ≡ message_refusal fault };
+
+    fn from(fault: MessageFault) -> Refusal {
+        match fault {
+            MessageFault::Field(fault) => Refusal::from(fault),
             MessageFault::Twice(post) => Refusal {
                 number: 7,
                 layer: 1,
-                place: post as u16,
+                place: post.into(),
             },
         }
     }

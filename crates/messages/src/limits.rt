@@ -11,9 +11,6 @@ pub const MESSAGE: usize = 17;
 // The version of the format.
 pub(crate) const VERSION: u8 = 1;
 
-// How many calls there are, numbered from 1.
-pub(crate) const CALLS: u8 = 11;
-
 // The offsets of the fields that stand in every message.
 pub(crate) const CALL_AT: usize = 3;
 

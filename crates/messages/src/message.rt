@@ -26,7 +26,7 @@ pub fn blank() -> Message
         sitting: Sitting {
             person: 0,
             count: 1,
-            posts: [Post { role: 0, branch: 0 }; POSTS],
+            posts: [Post::default(); POSTS],
         },
         call: Call::Sit,
     }

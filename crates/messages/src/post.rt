@@ -1,12 +1,12 @@
 // A post, and how it stands in bytes.
+ghost use Rattle.std.proofs.Common.{rules};
 ghost use Rattle.messages.specs.Posts.{no_post, post_at, post_checked};
 
 use crate::limits::POST;
-use crate::numbers::{check_branch, check_role};
-use fields::{FieldFault, Record, byte};
+use fields::{BRANCHES, FieldFault, ROLES, Record, byte, check_below};
 
 // A role at a branch.
-#[derive(Clone, Copy, PartialEq, Eq)]
+#[derive(Clone, Copy, Default, PartialEq, Eq)]
 pub struct Post {
     pub role: u8,
     pub branch: u8,
@@ -15,7 +15,10 @@ pub struct Post {
 impl Record for Post {
     type Scope = ();
 
-    ghost size = { 2 };
+    // The bytes of a post.
+    const WIDTH: u8 = POST;
+
+    ghost WIDTH = { 2 };
 
     ghost checked = { λ bytes _ at _. post_checked bytes at };
 
@@ -23,15 +26,12 @@ impl Record for Post {
 
     ghost empty = { no_post };
 
-    // The bytes of a post.
-    fn width() -> u8 {
-        POST
-    }
+    ghost blank = { Prim.search rules };
 
     // The role and then the branch are checked.
     fn check(bytes: &[u8], _scope: (), at: u32, _number: u16) -> Result<(), FieldFault> {
-        check_role(bytes, at as usize)?;
-        check_branch(bytes, at as usize + 1)
+        check_below(bytes, at as usize, ROLES as u16)?;
+        check_below(bytes, at as usize + 1, BRANCHES as u16)
     }
 
     // The post that stands at the offset.
@@ -40,10 +40,5 @@ impl Record for Post {
             role: byte(bytes, at as usize),
             branch: byte(bytes, at as usize + 1),
         }
-    }
-
-    // The post that stands behind the last one of a sitting.
-    fn blank() -> Post {
-        Post { role: 0, branch: 0 }
     }
 }

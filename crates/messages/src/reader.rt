@@ -1,75 +1,76 @@
 // Reads a message from bytes, or says the first thing that is wrong with them.
-ghost use Rattle.std.specs.Prelude.{◌≡◌, MatchResult, OnOk};
-ghost use Rattle.refusals.specs.Checks.{in_order};
-ghost use Rattle.messages.specs.Posts.{same_post};
-ghost use Rattle.messages.specs.Reading.{field_steps, new_checked, apart_checked, message_result, Reads};
-ghost use Rattle.messages.specs.Said.{post_in, said, written};
+ghost use Rattle.std.specs.Prelude.{◌≡◌, IfOk, MatchResult, OnOk};
+ghost use Rattle.refusals.specs.Checks.{in_order, verdict};
+ghost use Rattle.fields.specs.Bytes.{byte_at};
+ghost use Rattle.fields.specs.Fields.{field_checked};
+ghost use Rattle.messages.specs.Calls.{kind_number};
+ghost use Rattle.messages.specs.Numbers.{within};
+ghost use Rattle.messages.specs.Reading.{field_steps, message_result, Reads};
+ghost use Rattle.messages.specs.Said.{said, written};
 
 use crate::arguments::{check_arguments, read_call, width};
 use crate::fault::MessageFault;
-use crate::limits::{BODY, CALL_AT, CALLS, COUNT_AT, PERSON_AT, POST, POSTS, POSTS_AT};
+use crate::kind::CallKind;
+use crate::limits::{BODY, CALL_AT, COUNT_AT, PERSON_AT, POSTS, POSTS_AT};
 use crate::message::Message;
-use crate::numbers::{check_person, within};
 use crate::post::Post;
+use crate::posts::check_apart;
 use crate::sitting::Sitting;
-use fields::{FieldFault, Record, byte, check_end, check_list, field, header, read_list};
-use refusals::must;
+use fields::{
+    FieldFault, PERSONS, byte, check_below, check_end, check_list, field, header, offset, read_list,
+};
 
-// Checks each field of a message that names a call and so many posts, and that nothing stands behind the last.
-fn check_fields(bytes: &[u8], number: u8, count: u8) -> Result<(), FieldFault>
-    ensures { result ≡ in_order (field_steps bytes.now number count) }
+// The kind of call that stands in its field.
+fn check_kind(bytes: &[u8]) -> Result<CallKind, FieldFault>
+    ensures answer { verdict result ≡ field_checked bytes.now 3 1 (within 1 (byte_at bytes.now 3) 11) }
+    ensures kind { IfOk result (λ kind. kind_number kind ≡ byte_at bytes.now 3) }
+{
+    field(bytes, CALL_AT, 1, true)?;
+    CallKind::try_from(byte(bytes, CALL_AT))
+}
+
+// Checks each field of a message that has so many posts, and that nothing stands behind the last; says the kind of call.
+fn check_fields(bytes: &[u8], count: u8) -> Result<CallKind, FieldFault>
+    ensures answer { verdict result ≡ in_order (field_steps bytes.now (byte_at bytes.now 3) count) }
+    ensures kind { IfOk result (λ kind. kind_number kind ≡ byte_at bytes.now 3) }
 {
     header(bytes, BODY)?;
-    field(bytes, CALL_AT, 1, within(1, number, CALLS))?;
-    check_person(bytes, PERSON_AT)?;
-    field(bytes, COUNT_AT, 1, within(1, count, POSTS as u8))?;
+    let kind = check_kind(bytes)?;
+    check_below(bytes, PERSON_AT, PERSONS as u16)?;
+    field(bytes, COUNT_AT, 1, 1 <= count && count as usize <= POSTS)?;
     check_list::<Post>(bytes, (), POSTS_AT, count as u16)?;
-    let arguments = POSTS_AT + POST as u16 * count as u16;
-    check_arguments(bytes, number, arguments)?;
-    check_end(bytes, arguments as usize + width(number) as usize)
+    let arguments = offset::<Post>(POSTS_AT, count as u16);
+    check_arguments(bytes, kind, arguments)?;
+    check_end(bytes, arguments as usize + width(kind) as usize)?;
+    Ok(kind)
 }
 
-// The post with the place in the sitting.
-fn post(bytes: &[u8], place: u8) -> Post
-    ensures { result ≡ post_in bytes.now place }
+// The message that the bytes say, or the first thing that is wrong with them.
+fn message(bytes: &[u8]) -> Result<Message, MessageFault>
+    ensures answer { verdict result ≡ message_result bytes.now }
+    ensures reads { IfOk result (λ message. Reads bytes.now message) }
+    ensures written_back { IfOk result (λ message. written (said message) ≡ bytes.now) }
 {
-    <Post as fields::Record>::read(bytes, POSTS_AT as u32 + POST as u32 * place as u32)
-}
-
-// Two posts of the sitting are the same.
-fn same(bytes: &[u8], j: u8, k: u8) -> bool
-    ensures { result ≡ same_post (post_in bytes.now j) (post_in bytes.now k) }
-{
-    post(bytes, j) == post(bytes, k)
-}
-
-// The post with the place in the sitting repeats none before it.
-fn check_new(bytes: &[u8], k: u8) -> Result<(), MessageFault>
-    ensures { result ≡ new_checked bytes.now k }
-{
-    for j in 0..k {
-        must(!same(bytes, j, k), MessageFault::Twice(k))?;
-    }
-    Ok(())
-}
-
-// No post of the sitting repeats another.
-fn check_apart(bytes: &[u8], count: u8) -> Result<(), MessageFault>
-    ensures { result ≡ apart_checked bytes.now count }
-{
-    for k in 0..count {
-        check_new(bytes, k)?;
-    }
-    Ok(())
+    let count = byte(bytes, COUNT_AT);
+    let kind = check_fields(bytes, count)?;
+    let posts = read_list::<Post, POSTS>(bytes, POSTS_AT, count as u16);
+    check_apart(&posts, count)?;
+    Ok(Message {
+        sitting: Sitting {
+            person: byte(bytes, PERSON_AT),
+            count,
+            posts,
+        },
+        call: read_call(bytes, kind, offset::<Post>(POSTS_AT, count as u16)),
+    })
 }
 
 // Says the first thing that is wrong with the message.
 pub fn check(bytes: &[u8]) -> Result<(), MessageFault>
     ensures { result ≡ message_result bytes.now }
 {
-    let count = byte(bytes, COUNT_AT);
-    check_fields(bytes, byte(bytes, CALL_AT), count)?;
-    check_apart(bytes, count)
+    message(bytes)?;
+    Ok(())
 }
 
 // Reads the message into the place, or says the first thing that is wrong and leaves the place as it was.
@@ -78,16 +79,6 @@ pub fn read(bytes: &[u8], into: &mut Message) -> Result<(), MessageFault>
     ensures leaves { MatchResult result (λ _. Reads bytes.now into.new) (λ _. into.new ≡ into.old) }
     ensures written_back { OnOk result (written (said into.new) ≡ bytes.now) }
 {
-    check(bytes)?;
-    let count = byte(bytes, COUNT_AT);
-    let arguments = POSTS_AT + POST as u16 * count as u16;
-    *into = Message {
-        sitting: Sitting {
-            person: byte(bytes, PERSON_AT),
-            count,
-            posts: read_list::<Post, POSTS>(bytes, POSTS_AT, count as u16),
-        },
-        call: read_call(bytes, byte(bytes, CALL_AT), arguments),
-    };
+    *into = message(bytes)?;
     Ok(())
 }

@@ -1,5 +1,5 @@
 // Writes a message as bytes into memory that the caller lends.
-ghost use Rattle.std.specs.Prelude.{◌≡◌, ◌+◌, ◌*◌, ◌≤◌, ◌++◌, length, take, drop, Ok, MatchResult, OnOk};
+ghost use Rattle.std.specs.Prelude.{◌≡◌, ◌+◌, ◌≤◌, ◌++◌, length, take, drop, Ok, MatchResult, OnOk};
 ghost use Rattle.std.specs.List.{flat_map};
 ghost use Rattle.messages.specs.Reading.{message_result};
 ghost use Rattle.messages.specs.Arguments.{arguments_of};
@@ -10,98 +10,87 @@ ghost use Rattle.messages.specs.Writing.{write_result};
 use crate::arguments::width;
 use crate::call::Call;
 use crate::fault::MessageFault;
-use crate::limits::{LEAD, MESSAGE, POST, POSTS_AT, VERSION};
+use crate::limits::{LEAD, MESSAGE, POST, VERSION};
 use crate::message::Message;
 use crate::reader::check;
 use crate::sitting::Sitting;
+use arrayvec::ArrayVec;
 use fields::FieldFault;
 
-// Lays the part into the bytes at a place, and says where it ends.
-fn lay(bytes: &mut [u8; MESSAGE], at: usize, part: &[u8]) -> usize
-    requires { at + length part.now ≤ 17 }
-    ensures ends { result ≡ at + length part.now }
-    ensures front { take result bytes.new ≡ take at bytes.old ++ part.now }
+// Adds the posts of the sitting to the bytes before them.
+fn add_posts(bytes: &mut ArrayVec<u8, MESSAGE>, sitting: &Sitting)
+    requires { length bytes.old.items ≤ 6 }
+    ensures { bytes.new.items ≡ bytes.old.items ++ flat_map post_bytes (take sitting.now.count sitting.now.posts) }
 {
-    let end = at + part.len();
-    bytes[at..end].copy_from_slice(part);
-    end
-}
-
-// Lays the posts of the sitting where they stand in every message, and says where they end.
-fn lay_posts(bytes: &mut [u8; MESSAGE], sitting: &Sitting) -> usize
-    ensures ends { result ≡ 6 + 2 * sitting.now.count }
-    ensures front { take result bytes.new ≡ take 6 bytes.old ++ flat_map post_bytes (take sitting.now.count sitting.now.posts) }
-    ensures all { length (take sitting.now.count sitting.now.posts) ≡ sitting.now.count }
-{
-    let mut end = POSTS_AT as usize;
-    for k in 0..sitting.count as usize {
-        let post = sitting.posts[k];
-        end = lay(bytes, end, &[post.role, post.branch]);
+    for post in &sitting.posts[..sitting.count as usize] {
+        bytes.push(post.role);
+        bytes.push(post.branch);
     }
-    end
 }
 
-// Lays the arguments of the call at a place, and says where they end.
-fn lay_arguments(bytes: &mut [u8; MESSAGE], at: usize, call: Call) -> usize
-    requires { at + 3 ≤ 17 }
-    ensures ends { result ≡ at + length (arguments_of call) }
-    ensures front { take result bytes.new ≡ take at bytes.old ++ arguments_of call }
+// Adds the arguments of the call to the bytes before them.
+fn add_arguments(bytes: &mut ArrayVec<u8, MESSAGE>, call: Call)
+    requires { length bytes.old.items + 3 ≤ 17 }
+    ensures { bytes.new.items ≡ bytes.old.items ++ arguments_of call }
 {
     match call {
-        Call::Decide { operation, piece } => lay(
-            bytes,
-            at,
-            &[operation, (piece / 256) as u8, (piece % 256) as u8],
-        ),
+        Call::Decide { operation, piece } => {
+            let [high, low] = piece.to_be_bytes();
+            bytes
+                .try_extend_from_slice(&[operation, high, low])
+                .unwrap()
+        }
         Call::Grant {
             person,
             role,
             branch,
-        } => lay(bytes, at, &[person, role, branch]),
-        Call::Take {
+        }
+        | Call::Take {
             person,
             role,
             branch,
-        } => lay(bytes, at, &[person, role, branch]),
-        Call::Throughout {
+        }
+        | Call::Throughout {
             person,
             role,
             branch,
-        } => lay(bytes, at, &[person, role, branch]),
-        Call::Enrol { person, branch } => lay(bytes, at, &[person, branch]),
-        Call::Strike { person, branch } => lay(bytes, at, &[person, branch]),
-        Call::Open { branch } => lay(bytes, at, &[branch]),
-        Call::Close { branch } => lay(bytes, at, &[branch]),
+        } => bytes
+            .try_extend_from_slice(&[person, role, branch])
+            .unwrap(),
+        Call::Enrol { person, branch } | Call::Strike { person, branch } => {
+            bytes.try_extend_from_slice(&[person, branch]).unwrap()
+        }
+        Call::Open { branch } | Call::Close { branch } => bytes.push(branch),
         Call::Permit {
             operation,
             kind,
             role,
-        } => lay(bytes, at, &[operation, kind, role]),
-        Call::Forbid {
+        }
+        | Call::Forbid {
             operation,
             kind,
             role,
-        } => lay(bytes, at, &[operation, kind, role]),
-        Call::Sit => at,
+        } => bytes
+            .try_extend_from_slice(&[operation, kind, role])
+            .unwrap(),
+        Call::Sit => (),
     }
 }
 
-// Lays the whole message from the start, and says where it ends.
-fn lay_message(bytes: &mut [u8; MESSAGE], message: &Message) -> usize
-    ensures ends { result ≡ length (written (said message.now)) }
-    ensures front { take result bytes.new ≡ written (said message.now) }
-    ensures fits { result ≤ 17 }
+// The bytes of the message.
+fn bytes_of(message: &Message) -> ArrayVec<u8, MESSAGE>
+    ensures { result.items ≡ written (said message.now) }
 {
-    let number = message.call.number();
+    let kind = message.call.kind();
     let count = message.sitting.count;
-    let body = LEAD + POST * count + width(number);
-    lay(
-        bytes,
-        0,
-        &[VERSION, 0, body, number, message.sitting.person, count],
-    );
-    let arguments = lay_posts(bytes, &message.sitting);
-    lay_arguments(bytes, arguments, message.call)
+    let body = LEAD + POST * count + width(kind);
+    let mut bytes = ArrayVec::new();
+    bytes
+        .try_extend_from_slice(&[VERSION, 0, body, kind.into(), message.sitting.person, count])
+        .unwrap();
+    add_posts(&mut bytes, &message.sitting);
+    add_arguments(&mut bytes, message.call);
+    bytes
 }
 
 // Writes the message at the start of the memory, and says how many bytes it has; a message that the reader would refuse is not written.
@@ -113,9 +102,8 @@ pub fn write(message: &Message, into: &mut [u8]) -> Result<usize, MessageFault>
     if into.len() < MESSAGE {
         return Err(MessageFault::Field(FieldFault::Length(into.len())));
     }
-    let mut bytes = [0; MESSAGE];
-    let end = lay_message(&mut bytes, message);
-    check(&bytes[0..end])?;
-    into[0..end].copy_from_slice(&bytes[0..end]);
-    Ok(end)
+    let bytes = bytes_of(message);
+    check(&bytes)?;
+    into[..bytes.len()].copy_from_slice(&bytes);
+    Ok(bytes.len())
 }

@@ -5,8 +5,8 @@ use Rattle.messages.specs.Said.{said, written}
 use Rattle.messages.proofs.ReadBack.{read_back}
 use Rattle.messages.proofs.writer.write.Goals as goal
 
-pub returns : goal.returns
-returns c =
+pub returns-clause-read_back : goal.returns-clause-read_back
+returns-clause-read_back c =
     let s = said c.args.message.now in
     let passed : message_result (written s) ≡ Ok tt = search rules in
-    record { answer = search rules; leaves = search rules; read_back = (passed, read_back s) }
+    (passed, read_back s)

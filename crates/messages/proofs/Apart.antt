@@ -1,0 +1,81 @@
+-- Posts beside each other: a look at all earlier ones at once, and posts that were read from bytes.
+use Rattle.std.proofs.Common.{◌≡◌, ℕ, zero, suc, ◌<◌, ◌≤◌, Bool, true, false, not, ◌||◌, List, length, get_or, [], ◌∷◌, take, map, Ok, Result, sym, refl, ap, ◌∙◌, add-one, arith}
+use Rattle.std.specs.List.{list_any, enumerate_from, range_with_len}
+use Rattle.std.proofs.lemmas.List.FromFn.{get_or-enumerate_from, length-enumerate_from, get_or-map-range_with_len, length-map-range_with_len}
+use Rattle.std.proofs.lemmas.List.Folds.{list_any_more}
+use Rattle.std.proofs.lemmas.List.{get_or_default, get_or-take, length-take, length-take-le, take_all, take-take}
+use Rattle.refusals.specs.Checks.{must, then, in_order, every}
+use Rattle.fields.specs.Bytes.{byte_at}
+use Rattle.fields.specs.Records.{filled}
+use Rattle.messages.specs.Apart.{differs, new_post, new_at, apart_posts}
+use Rattle.messages.specs.Posts.{no_post, same_post}
+use Rattle.messages.specs.Reading.{field_steps, lifted, new_checked, apart_checked, message_result}
+use Rattle.messages.specs.Said.{post_in}
+use Rattle.messages.specs.declared.fault.MessageFault.TheVariants.{Twice}
+use Rattle.messages.specs.declared.post.Post.{Post}
+use Rattle.messages.proofs.Accepted.{last_says, fields_few}
+use Rattle.messages.proofs.WrittenBack.{filled_front}
+
+-- two checks that refuse with the same fault are one
+both : {F : Type 0} (a b : Bool) (fault : F) → then (must (not a) fault) (must (not b) fault) ≡ must (not (a || b)) fault
+both true b fault = refl
+both false b fault = refl
+
+-- a row of checks that no element passes the test looks at all elements at once
+row : {X F : Type 0} (test : X → Bool) (xs : List X) (d : X) (fault : F) (n : ℕ) → n ≤ length xs → every n (λ j. must (not (test (get_or xs j d))) fault) ≡ must (not (list_any test (take n xs))) fault
+row test xs d fault zero h = refl
+row test xs d fault (suc n) h =
+    ap (λ before. then before (must (not (test (get_or xs n d))) fault)) (row test xs d fault n (omega arith))
+    ∙ both (list_any test (take n xs)) (test (get_or xs n d)) fault
+    ∙ ap (λ some. must (not some) fault) (sym (list_any_more test xs n d h) ∙ ap (λ k. list_any test (take k xs)) (add-one n))
+
+-- a post is new where none of those before it is the same
+pub new_post_is : (before : List Post) (post : Post) → new_post before post ≡ must (not (list_any (λ earlier. same_post earlier post) before)) (Twice (length before))
+new_post_is before post =
+    row (λ earlier. same_post earlier post) before no_post (Twice (length before)) (length before) (omega arith)
+    ∙ ap (λ xs. must (not (list_any (λ earlier. same_post earlier post) xs)) (Twice (length before))) (take_all (length before) before (omega arith))
+
+-- a turn through the first posts: the place and the post say whether the post is new
+pub turn_says : (all : List Post) (count n place : ℕ) (post : Post) → (n < length (enumerate_from 0 (take count all))) × ((place, post) ≡ get_or (enumerate_from 0 (take count all)) n (place, post)) → (n < length (take count all)) × (new_at (take count all) n ≡ must (not (list_any (λ earlier. same_post earlier post) (take place all))) (Twice place))
+turn_says all count n place post turn =
+    let first = take count all in
+    let few : n < length first = omega (arith, turn.0, length-enumerate_from 0 first) in
+    let short : length first ≤ count = omega (arith, length-take count all) in
+    let here = turn.1 ∙ get_or-enumerate_from 0 first n (place, post) few in
+    let place_is : place ≡ n = ap (λ p. p.0) here ∙ omega arith in
+    let post_is : get_or first n no_post ≡ post = get_or_default first n no_post post few ∙ sym (ap (λ p. p.1) here) in
+    let size : length (take n first) ≡ n = length-take-le n first (omega arith) in (
+      few,
+      new_post_is (take n first) (get_or first n no_post)
+          ∙ (λ i. must (not (list_any (λ earlier. same_post earlier (post_is i)) (take-take n count all (omega arith) i))) (Twice (size i)))
+          ∙ (λ i. must (not (list_any (λ earlier. same_post earlier post) (take (sym place_is i) all))) (Twice (sym place_is i))),
+    )
+
+-- two rows of checks that agree say the same
+every_same : {F : Type 0} (f g : ℕ → Result (Unit {0}) F) (n : ℕ) → ((k : ℕ) → k < n → f k ≡ g k) → every n f ≡ every n g
+every_same f g zero same = refl
+every_same f g (suc n) same = λ i. then (every_same f g n (λ k h. same k (omega arith)) i) (same n (omega arith) i)
+
+-- posts that were read from bytes are looked at as the bytes are
+pub apart_read : (b : List ℕ) (count : ℕ) → apart_posts (map (post_in b) (range_with_len 0 count)) ≡ apart_checked b count
+apart_read b count =
+    let posts = map (post_in b) (range_with_len 0 count) in
+    let size = length-map-range_with_len (post_in b) 0 count in
+    let at : (k : ℕ) → k < count → get_or posts k no_post ≡ post_in b k = λ k h. get_or-map-range_with_len (post_in b) 0 count k k no_post h (omega arith) in
+    ap (λ n. every n (new_at posts)) size
+    ∙ every_same (new_at posts) (new_checked b) count
+    (λ k h.
+    let before : length (take k posts) ≡ k = length-take-le k posts (omega arith) in
+    ap (λ n. every n (differs (take k posts) (get_or posts k no_post))) before
+    ∙ every_same (differs (take k posts) (get_or posts k no_post)) (λ j. must (not (same_post (post_in b j) (post_in b k))) (Twice k)) k
+    (λ j l. λ i. must (not (same_post ((get_or-take k posts j no_post l ∙ at j (omega arith)) i) (at k h i))) (Twice (before i))))
+
+-- where the fields have passed, the posts that were read decide
+pub posts_decide : (b : List ℕ) (count : ℕ) → count ≡ byte_at b 5 → in_order (field_steps b (byte_at b 3) count) ≡ Ok tt → message_result b ≡ apart_posts (take count (filled 4 count no_post (post_in b)))
+unfolding message_result
+posts_decide b count is passed =
+    let few = fields_few b (byte_at b 3) count passed in
+    let fields : lifted (in_order (field_steps b (byte_at b 3) (byte_at b 5))) ≡ Ok tt = ap lifted (rw is at passed) in
+    last_says (lifted (in_order (field_steps b (byte_at b 3) (byte_at b 5))) ∷ []) (apart_checked b (byte_at b 5)) (fields, tt)
+    ∙ ap (apart_checked b) (sym is)
+    ∙ sym (ap apart_posts (filled_front 4 count no_post (post_in b) few.1) ∙ apart_read b count)
