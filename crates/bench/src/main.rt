@@ -50,11 +50,7 @@ fn take_message<W: Write>(bytes: &[u8], message: &mut Message, out: &mut W) -> i
 }
 
 // Goes through the messages until the input ends or one of them says no more where the next begins.
-fn take_messages<R: Read, W: Write>(
-    heap: Global,
-    input: &mut R,
-    out: &mut W,
-) -> io::Result<()> {
+fn take_messages<R: Read, W: Write>(heap: Global, input: &mut R, out: &mut W) -> io::Result<()> {
     let mut bytes = Vec::new(heap);
     let mut message = messages::blank();
     // A count in place of `loop`: an input may never end, and every loop has to.

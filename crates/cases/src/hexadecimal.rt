@@ -8,7 +8,9 @@ use std::alloc::Global;
 fn digit(byte: u8) -> anyhow::Result<u8>
     ensures { IfOk result (λ value. value < 16) }
 {
-    let value = char::from(byte).to_digit(16).context("not a hexadecimal digit")?;
+    let value = char::from(byte)
+        .to_digit(16)
+        .context("not a hexadecimal digit")?;
     Ok(value as u8)
 }
 

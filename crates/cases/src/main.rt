@@ -43,7 +43,9 @@ fn answer<W: Write>(heap: Global, line: &str, plan: &mut Plan, out: &mut W) -> a
             let mut message = messages::blank();
             tell(
                 Word::Unread,
-                messages::read(&bytes, &mut message).err().map(Refusal::from),
+                messages::read(&bytes, &mut message)
+                    .err()
+                    .map(Refusal::from),
                 out,
             )?;
         }
