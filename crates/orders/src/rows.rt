@@ -74,6 +74,7 @@ fn row_of(rows: &[u16; MOST_ROWS], member: u8) -> u16
 }
 
 // Tells whether the row of member `q` names `q`, none but members, and stands over the rows that it names.
+// (Rows and count stay two parameters: a struct of both would be longer than what it saves in this function and the next.)
 fn row_stands(rows: &[u16; MOST_ROWS], count: u8, q: u8) -> bool
     ensures { result ≡ row_stands 16 rows.now count q }
 {

@@ -3,12 +3,6 @@ use Rattle.std.proofs.Common.{◌≡◌, ℕ, List, map, length, get_or, sym, �
 use Rattle.std.specs.Array.{IsMapOf}
 use denote.Param.Members.{Mut, Called}
 use Rattle.std.proofs.lemmas.List.{ext_get_or, length-map, get_or-map}
-use Rattle.plans.specs.declared.branch.Branch.{Branch}
-use Rattle.plans.specs.declared.role.Role.{Role}
-use Rattle.plans.specs.declared.line.Line.{Line}
-use Rattle.plans.specs.declared.set.Set.{Set}
-use Rattle.plans.specs.declared.piece.Piece.{Piece}
-use Rattle.plans.specs.declared.plan.Plan.{Plan}
 
 -- an array that the library's `map` makes, by a closure that computes f
 pub mapped : {F X : Type 0} (g : Mut F (X × Unit {0}) ℕ) (f : X → ℕ) (state : F) (xs : List X) (ys : List ℕ) (n : ℕ) (d : X)

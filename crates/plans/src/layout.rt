@@ -53,7 +53,6 @@ fn list(bytes: &[u8], at: u16) -> Span
 }
 
 // Finds the lists from the counts alone; whether they fit, and whether the counts are allowed, is for the checks to say.
-#[tactic(auto, unfolding(crate::specs::Layout::layout_of, crate::specs::Layout::branches_in, crate::specs::Layout::roles_in, crate::specs::Layout::principal_in, crate::specs::Layout::grants_in, crate::specs::Layout::takes_in, crate::specs::Layout::sets_in, crate::specs::Layout::pieces_in,))]
 pub(crate) fn lay_out(bytes: &[u8]) -> Layout
     ensures { result ≡ layout_of bytes.now }
 {

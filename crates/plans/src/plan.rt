@@ -70,14 +70,14 @@ impl Plan {
     }
 }
 
-// The parent of each branch.
+// The parent of each branch. (A function of its own: within `branch_order` this line leaves two clauses to written answers.)
 fn parents_of(branches: &[Branch; BRANCHES]) -> [u8; BRANCHES]
     ensures { result ≡ parents_of branches.now }
 {
     branches.map(|branch| branch.parent)
 }
 
-// The row of each role.
+// The row of each role, for the plan's order and for the reader's check.
 pub(crate) fn rows_of(roles: &[Role; ROLES]) -> [u16; ROLES]
     ensures { result ≡ rows_of roles.now }
 {

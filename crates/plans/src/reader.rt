@@ -1,9 +1,9 @@
 // The reader of plan files: every check in the order of the format, and only then the plan.
-ghost use Rattle.std.specs.Prelude.{◌≡◌, ◌+◌, ◌*◌, Ok, OnOk};
+ghost use Rattle.std.specs.Prelude.{◌≡◌, ◌+◌, ◌*◌, Ok, OnOk, [], ◌∷◌};
 ghost use Rattle.refusals.specs.Checks.{every, in_order};
 ghost use Rattle.fields.specs.Records.{filled};
 ghost use Rattle.plans.specs.Plan.{Ordered};
-ghost use Rattle.plans.specs.Reader.{body_steps, count_checked, field_steps, line_steps, piece_steps, line_apart, line_in, lines_apart, pair_apart, plan_after, plan_made, plan_result, plan_steps, principal_stands, rows_read};
+ghost use Rattle.plans.specs.Reader.{body_steps, count_checked, field_steps, line_steps, piece_steps, line_apart, lines_apart, pair_apart, plan_after, plan_made, plan_result, plan_steps, principal_stands, rows_read};
 
 use crate::branch::Branch;
 use crate::fault::PlanFault;
@@ -31,45 +31,11 @@ struct PlanFile<'b> {
 }
 
 impl PlanFile<'_> {
-    // Tells whether the principal is a role and may stand at the top.
-    fn principal_stands(&self) -> bool
-        ensures { result ≡ principal_stands self.now.bytes.now self.now.layout }
+    // Reads the record with a number in a list.
+    fn record<T: Record>(&self, list: Span, number: u16) -> T
+        ensures { result ≡ T.Record.made self.now.bytes.now (list.first + T.WIDTH * number) }
     {
-        let Layout {
-            branches,
-            roles,
-            ..
-        } = self.layout;
-        let principal = byte(self.bytes, self.layout.principal as usize) as u16;
-        let role = Role::read(self.bytes, offset::<Role>(roles.first, principal));
-        principal < roles.count
-            && role.may_stand(Branch::read(self.bytes, offset::<Branch>(branches.first, 0)))
-    }
-
-    // A count within its bounds.
-    fn check_count(
-        &self,
-        list: Span,
-        width: usize,
-        least: usize,
-        most: usize,
-    ) -> Result<(), FieldFault>
-        ensures { result ≡ count_checked self.now.bytes.now list width least most }
-    {
-        let count = list.count as usize;
-        field(
-            self.bytes,
-            list.at as usize,
-            width,
-            (least..=most).contains(&count),
-        )
-    }
-
-    // The records of a list, one after the other.
-    fn check_records<T: Record<Scope = Layout>>(&self, list: Span) -> Result<(), FieldFault>
-        ensures { result ≡ every list.count (λ k. T.Record.checked self.now.bytes.now self.now.layout (list.first + T.WIDTH * k) k) }
-    {
-        check_list::<T>(self.bytes, self.layout, list.first, list.count)
+        T::read(self.bytes, offset::<T>(list.first, number))
     }
 
     // Reads the records of a list into an array; the places behind the last one get the empty record.
@@ -79,16 +45,39 @@ impl PlanFile<'_> {
         read_list(self.bytes, list.first, list.count)
     }
 
+    // Tells whether the principal is a role and may stand at the top.
+    fn principal_stands(&self) -> bool
+        ensures { result ≡ principal_stands self.now.bytes.now self.now.layout }
+    {
+        let layout = self.layout;
+        let principal = u16::from(byte(self.bytes, layout.principal as usize));
+        let role: Role = self.record(layout.roles, principal);
+        principal < layout.roles.count && role.may_stand(self.record(layout.branches, 0))
+    }
+
+    // The count of a list, of so many bytes and within its bounds, and its records one after the other.
+    fn check_records<T: Record<Scope = Layout>>(
+        &self,
+        list: Span,
+        width: usize,
+        least: usize,
+        most: usize,
+    ) -> Result<(), FieldFault>
+        ensures { result ≡ in_order (count_checked self.now.bytes.now list width least most ∷ every list.count (λ k. T.Record.checked self.now.bytes.now self.now.layout (list.first + T.WIDTH * k) k) ∷ []) }
+    {
+        let allowed = (least..=most).contains(&usize::from(list.count));
+        field(self.bytes, list.at as usize, width, allowed)?;
+        check_list::<T>(self.bytes, self.layout, list.first, list.count)
+    }
+
     // The header, the branches, the roles and the principal.
     fn check_body(&self) -> Result<(), FieldFault>
         ensures { result ≡ in_order (body_steps self.now.bytes.now self.now.layout) }
     {
         let layout = self.layout;
         header(self.bytes, LONGEST)?;
-        self.check_count(layout.branches, 1, 1, BRANCHES)?;
-        self.check_records::<Branch>(layout.branches)?;
-        self.check_count(layout.roles, 1, 1, ROLES)?;
-        self.check_records::<Role>(layout.roles)?;
+        self.check_records::<Branch>(layout.branches, 1, 1, BRANCHES)?;
+        self.check_records::<Role>(layout.roles, 1, 1, ROLES)?;
         field(
             self.bytes,
             layout.principal as usize,
@@ -102,10 +91,8 @@ impl PlanFile<'_> {
         ensures { result ≡ in_order (line_steps self.now.bytes.now self.now.layout) }
     {
         let Layout { grants, takes, .. } = self.layout;
-        self.check_count(grants, 1, 0, LINES)?;
-        self.check_records::<Line>(grants)?;
-        self.check_count(takes, 1, 0, LINES)?;
-        self.check_records::<Line>(takes)
+        self.check_records::<Line>(grants, 1, 0, LINES)?;
+        self.check_records::<Line>(takes, 1, 0, LINES)
     }
 
     // The sets and the pieces, and nothing behind them.
@@ -113,10 +100,8 @@ impl PlanFile<'_> {
         ensures { result ≡ in_order (piece_steps self.now.bytes.now self.now.layout) }
     {
         let Layout { sets, pieces, .. } = self.layout;
-        self.check_count(sets, 1, 0, SETS)?;
-        self.check_records::<Set>(sets)?;
-        self.check_count(pieces, 2, 0, PIECES)?;
-        self.check_records::<Piece>(pieces)?;
+        self.check_records::<Set>(sets, 1, 0, SETS)?;
+        self.check_records::<Piece>(pieces, 2, 0, PIECES)?;
         check_end(
             self.bytes,
             offset::<Piece>(pieces.first, pieces.count) as usize,
@@ -142,22 +127,14 @@ impl PlanFile<'_> {
         Ok(())
     }
 
-    // The line with a number in a list of lines.
-    fn line_in(&self, lines: Span, number: u16) -> Line
-        ensures { result ≡ line_in self.now.bytes.now lines number }
-    {
-        Line::read(self.bytes, offset::<Line>(lines.first, number))
-    }
-
     // Line `k` has another pair than line `j`.
     fn check_pair(&self, lines: Span, k: u16, j: u16) -> Result<(), PlanFault>
         ensures { result ≡ pair_apart self.now.bytes.now lines k j }
     {
-        let same = self.line_in(lines, j).same_pair(self.line_in(lines, k));
-        must(
-            !same,
-            PlanFault::Repeated(offset::<Line>(lines.first, k) as usize),
-        )
+        let earlier: Line = self.record(lines, j);
+        let repeated = earlier.same_pair(self.record(lines, k));
+        let at = offset::<Line>(lines.first, k) as usize;
+        must(!repeated, PlanFault::Repeated(at))
     }
 
     // Line `k` repeats the pair of no earlier line.

@@ -1,8 +1,7 @@
 -- What passed every check gives both orders.
 use Rattle.std.proofs.Common.{◌≡◌, Ok, sym, ap, ◌∙◌, subst, rules}
-use Rattle.refusals.specs.Checks.{in_order}
 use Rattle.plans.specs.Plan.{Ordered}
-use Rattle.plans.specs.Reader.{plan_made, plan_result, plan_steps}
+use Rattle.plans.specs.Reader.{plan_made, plan_result}
 use Rattle.plans.proofs.PlanOrders.{read_orders}
 use Rattle.plans.proofs.reader.read.Goals as goal
 
