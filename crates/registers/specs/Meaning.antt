@@ -21,6 +21,10 @@ Inside posted branches = (p q b : ℕ) → posted p q b ≡ true → (p < 64) ×
 abbrev pub OwnShares : ℕ → (ℕ → ℕ) → Type 0
 OwnShares branches share = (b : ℕ) → branches ≤ b → share b ≡ 0
 
+-- the register has as many branches as before, and each has the share that it had
+abbrev pub KeepsShares : ℕ → (ℕ → ℕ) → ℕ → (ℕ → ℕ) → Type 0
+KeepsShares branches share branches' share' = (branches' ≡ branches) × ((b : ℕ) → share' b ≡ share b)
+
 -- two postings, (person, role, branch) and (x, y, z), are the same
 abbrev pub same_posting : ℕ → ℕ → ℕ → ℕ → ℕ → ℕ → Bool
 same_posting person role branch x y z = z == branch && (x == person && y == role)
