@@ -72,8 +72,8 @@ length_more : {X : Type 0} (b : Bool) (x : X) (xs : List X) → length (cond b (
 length_more true x xs = omega arith
 length_more false x xs = omega arith
 
--- the elements of a list that pass a test of their place and themselves, as many as there are such places
-pub count_listed : {X : Type 0} (test : ℕ → X → Bool) (d : X) (a : ℕ) (xs : List X) → length (filter (λ p. test p.0 p.1) (enumerate_from a xs)) ≡ count_below (length xs) (λ k. test (a + k) (get_or xs k d))
+-- the elements of a list that pass a test of their place and themselves, as many as there are such places: from any place on, and from 0
+count_listed : {X : Type 0} (test : ℕ → X → Bool) (d : X) (a : ℕ) (xs : List X) → length (filter (λ p. test p.0 p.1) (enumerate_from a xs)) ≡ count_below (length xs) (λ k. test (a + k) (get_or xs k d))
 count_listed test d a [] = sym (sum_none _)
 count_listed test d a (x ∷ xs) =
     length_more (test a x) (a, x) _
@@ -81,3 +81,6 @@ count_listed test d a (x ∷ xs) =
     (count_listed test d (a + 1) xs ∙ sum_same _ (λ k. cond (test (a + suc k) (get_or xs k d)) 1 0) (length xs) (λ k h. ap (λ n. cond (test n (get_or xs k d)) 1 0) (omega arith)))
     ∙ ap (λ m. cond (test m x) 1 0 + sum_below (length xs) (λ k. cond (test (a + suc k) (get_or xs k d)) 1 0)) (omega arith)
     ∙ sym (sum_first (λ k. cond (test (a + k) (get_or (x ∷ xs) k d)) 1 0) (length xs))
+
+pub count_enumerated : {X : Type 0} (test : ℕ → X → Bool) (d : X) (xs : List X) → length (filter (λ p. test p.0 p.1) (enumerate_from 0 xs)) ≡ count_below (length xs) (λ k. test k (get_or xs k d))
+count_enumerated test d xs = count_listed test d 0 xs ∙ sum_same _ _ (length xs) (λ k h. ap (λ n. cond (test n (get_or xs k d)) 1 0) (omega arith))
