@@ -33,13 +33,20 @@ fn rows_of(items: usize, branches: u8) -> u8
     (items / PERSONS as usize).min(branches as usize) as u8
 }
 
-// How many persons of a row other than one are posted to a role.
-fn others_in(row: &[u16], person: u8, role: u8) -> usize
-    ensures { result ≡ count_below (length row.now) (λ x. not (x == person) && has_bit (slice_index row.now x) role) }
+// Tells whether the cell of `other` posts somebody else to a posting's role.
+fn is_other(other: usize, cell: u16, posting: Posting) -> bool
+    ensures { result ≡ (not (other == posting.person) && has_bit cell posting.role) }
+{
+    other != posting.person as usize && has_bit(cell, posting.role)
+}
+
+// How many persons of a row other than a posting's are posted to its role.
+fn others_in(row: &[u16], posting: Posting) -> usize
+    ensures { result ≡ count_below (length row.now) (λ x. not (x == posting.person) && has_bit (slice_index row.now x) posting.role) }
 {
     row.iter()
         .enumerate()
-        .filter(|(other, cell)| *other != person as usize && has_bit(**cell, role))
+        .filter(|(other, cell)| is_other(*other, **cell, posting))
         .count()
 }
 
@@ -102,7 +109,7 @@ impl<'c> Register for Grid<'c> {
         if posting.check(self.branch_count()).is_err() {
             return 0;
         }
-        others_in(self.row(posting.branch), posting.person, posting.role) as u8
+        others_in(self.row(posting.branch), posting) as u8
     }
 
     fn put(&mut self, posting: Posting) -> Result<(), RegisterFault> {
