@@ -1,11 +1,12 @@
-// A posting, and its numbers.
+// A posting, its numbers, and the search for one among records.
 ghost use Rattle.std.specs.Prelude.{◌≡◌, ◌<◌, OnOk};
 ghost use Rattle.refusals.specs.Checks.{in_order};
-ghost use Rattle.registers.specs.Meaning.{number_steps};
+ghost use Rattle.registers.specs.Meaning.{is_posting, number_steps};
 
 use crate::fault::RegisterFault;
 use fields::{PERSONS, ROLES};
 use refusals::must;
+use search::Sought;
 
 // Who is posted to which role at which branch.
 #[derive(Clone, Copy, PartialEq, Eq)]
@@ -24,5 +25,14 @@ impl Posting {
         must(self.person < PERSONS, RegisterFault::NoPerson)?;
         must((self.role as usize) < ROLES, RegisterFault::NoRole)?;
         must(self.branch < branches, RegisterFault::NoBranch)
+    }
+}
+
+// A posting is sought among records, of which a free one is `None`.
+impl Sought<Option<Posting>> for Posting {
+    ghost seeks = { λ p it. is_posting it p.person p.role p.branch };
+
+    fn fits(&self, item: &Option<Posting>) -> bool {
+        *item == Some(*self)
     }
 }
