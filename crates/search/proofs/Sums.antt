@@ -1,7 +1,8 @@
 -- What sums over the numbers below a bound say: as a loop goes through them, and of their bounds.
-use Rattle.std.proofs.Common.{◌≡◌, ℕ, zero, suc, ◌+◌, ◌*◌, ◌<◌, ◌≤◌, Bool, true, false, cond, List, [], ◌∷◌, length, get_or, sym, refl, ap, ◌∙◌, subst, inl, inr, suc-mul, add-one, arith}
-use Rattle.std.specs.List.{enumerate_from, filter}
+use Rattle.std.proofs.Common.{◌≡◌, ℕ, zero, suc, ◌+◌, ◌*◌, ◌<◌, ◌≤◌, Bool, true, false, cond, List, [], ◌∷◌, length, get_or, take, sym, refl, ap, ◌∙◌, subst, inl, inr, suc-mul, add-one, arith}
+use Rattle.std.specs.List.{enumerate_from, filter, sum_by}
 use Rattle.std.proofs.lemmas.Bool.{cases_lt}
+use Rattle.std.proofs.lemmas.List.Sums.{sum_by-cons}
 use Rattle.search.specs.Searches.{count_below, sum_below}
 
 -- the sum of no number, and one turn of a loop
@@ -66,6 +67,12 @@ pub sum_first : (amount : ℕ → ℕ) (n : ℕ) → sum_below (suc n) amount �
 unfolding sum_below
 sum_first amount zero = omega arith
 sum_first amount (suc n) = omega (arith, sum_first amount n)
+
+-- the first numbers of a list, as many as there are, together
+pub sum_taken : (xs : List ℕ) (n : ℕ) → sum_by (λ x. x) (take n xs) ≡ sum_below n (λ k. get_or xs k 0)
+sum_taken xs zero = sym (sum_none _)
+sum_taken [] (suc n) = omega (arith, sum_most (λ k. 0) 0 (suc n) (λ k h. omega arith))
+sum_taken (x ∷ xs) (suc n) = sum_by-cons (λ y. y) x (take n xs) ∙ ap (λ m. x + m) (sum_taken xs n) ∙ sym (sum_first (λ k. get_or (x ∷ xs) k 0) n)
 
 -- an element more, where it passes
 length_more : {X : Type 0} (b : Bool) (x : X) (xs : List X) → length (cond b (x ∷ xs) xs) ≡ cond b 1 0 + length xs
