@@ -242,14 +242,16 @@ module _ (records : List (Option Posting)) (shares : List ℕ) (branches person 
       ∙ ap (λ n. held (map (without person role b) part) n x y b) (length-map part (without person role b))
       ∙ held_freed person role b part x y b)
 
--- records that are all free
-pub all_free : (records : List (Option Posting)) (n : ℕ) → records ≡ replicate n None → (k : ℕ) → get_or records k None ≡ None
-all_free records n cleared k =
+-- nobody is posted by records that are all free
+pub roll_cleared : (records : List (Option Posting)) (shares : List ℕ) (branches n : ℕ) → records ≡ replicate n None → (x y z : ℕ) → roll_posted records shares branches x y z ≡ false
+roll_cleared records shares branches n cleared =
+    roll_free records shares branches
+    (λ k.
     ap (λ (rs : List (Option Posting)). get_or rs k None) cleared
     ∙ elim (cases_lt k n) as (λ _. get_or {A = Option Posting} (replicate n None) k None ≡ None) [
       | inl h ↦ get_or-replicate n k None None h
       | inr past ↦ get_or_past (replicate n None) k None (omega (arith, length-replicate {A = Option Posting} n None))
-    ]
+    ])
 
 -- a test of the first shares, of which those that are not there are 0
 all_first : (test : ℕ → Bool) (n : ℕ) → all (suc n) test ≡ (test 0 && all n (λ k. test (suc k)))

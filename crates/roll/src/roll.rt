@@ -66,6 +66,7 @@ impl<'p, 's> Roll<'p, 's> {
     }
 
     // Makes a roll in which nobody is posted; a part for which there are too few records is shorter.
+    #[tactic(auto, using(crate::proofs::RollFacts::roll_cleared, crate::proofs::RollFacts::share_whole))]
     pub fn new(records: &'p mut [Option<Posting>], shares: &'s [u16], branches: u8) -> Roll<'p, 's>
         ensures records { result.records.now ≡ replicate (length records.old) None }
         ensures asked { (result.shares.now ≡ shares.now) × (result.branches ≡ branches) }
@@ -164,6 +165,7 @@ impl<'p, 's> Register for Roll<'p, 's> {
         Ok(())
     }
 
+    #[tactic(auto, using(crate::proofs::RollFacts::roll_cleared))]
     fn clear(&mut self) {
         self.records.fill(None);
     }
