@@ -3,4 +3,3 @@ mod Apart
 mod Arguments
 mod Grown
 mod Reader
-mod Room

@@ -1,5 +1,5 @@
 -- What the reader says of the message of a draft that was begun and added to.
-use Rattle.std.proofs.Common.{◌≡◌, ℕ, ◌+◌, ◌-◌, ◌*◌, ◌<◌, ◌≤◌, Bool, true, cond, not, ◌&&◌, eqb, ltb, leb, List, [], ◌∷◌, length, get_or, take, Ok, Err, Result, sym, refl, ap, ◌∙◌, subst, arith}
+use Rattle.std.proofs.Common.{◌≡◌, ℕ, ◌+◌, ◌-◌, ◌*◌, ◌<◌, ◌≤◌, Bool, true, cond, not, ◌&&◌, eqb, ltb, leb, List, [], ◌∷◌, length, get_or, take, Ok, Err, Result, sym, refl, ap, ◌∙◌, arith}
 use Rattle.std.proofs.lemmas.List.FromFn.{get_or-map-range_with_len}
 use Rattle.std.proofs.lemmas.List.{get_or-take, length-take-le}
 use Rattle.std.proofs.lemmas.Bool.{and_from, eq-eqb, le-leb, le-ltb, leb-true, lt-ltb, ltb-true}
@@ -9,27 +9,29 @@ use Rattle.fields.specs.Bytes.{byte_at, two_at}
 use Rattle.fields.specs.Fields.{header_checked, field_checked, end_checked}
 use Rattle.fields.specs.declared.fault.FieldFault.{FieldFault}
 use Rattle.fields.specs.declared.fault.FieldFault.TheVariants.{Length, Value, Version}
+use Rattle.messages.specs.Apart.{differs, new_at, apart_posts}
 use Rattle.messages.specs.Arguments.{arguments_checked, arguments_width, call_at}
 use Rattle.messages.specs.Calls.{number_of}
 use Rattle.messages.specs.Numbers.{within, person_checked, role_checked, branch_checked}
 use Rattle.messages.specs.Posts.{no_post, post_checked, same_post}
 use Rattle.messages.specs.Reading.{field_steps, lifted, new_checked, apart_checked, message_steps, message_result}
-use Rattle.messages.specs.Said.{Said, body_of, post_in, said_in, written}
+use Rattle.messages.specs.Said.{Said, body_of, post_in, said, said_in, written}
 use Rattle.messages.specs.Writing.{counted, write_result}
 use Rattle.messages.specs.declared.call.Call.{Call}
 use Rattle.messages.specs.declared.call.Call.TheVariants.{Decide, Grant, Take, Throughout, Enrol, Strike, Open, Close, Permit, Forbid, Sit}
 use Rattle.messages.specs.declared.fault.MessageFault.{MessageFault}
 use Rattle.messages.specs.declared.fault.MessageFault.TheVariants.{Field, Twice}
 use Rattle.messages.specs.declared.post.Post.{Post}
+use Rattle.messages.specs.declared.sitting.Sitting.{Sitting}
 use Rattle.messages.proofs.Accepted.{last_says}
 use Rattle.messages.proofs.ReadBack.{read_back}
 use Rattle.messages.proofs.Written.{length_body, width_few}
 use Rattle.drafts.specs.Begun.{Begun, added_at, arguments_result}
 use Rattle.drafts.specs.Drafts.{said_with}
-use Rattle.drafts.specs.Posts.{differs, new_at, apart_posts, add_steps}
+use Rattle.drafts.specs.Posts.{add_steps}
 use Rattle.drafts.specs.Steps.{begin_result, seat_result, finish_result}
 use Rattle.drafts.specs.declared.draft.Draft.{Draft}
-use Rattle.drafts.specs.declared.draft.Filled.{Filled}
+use Rattle.drafts.proofs.Apart.{seated}
 use Rattle.drafts.proofs.Arguments.{then_ok, field_rule, arguments_said}
 
 -- ---- the bytes of what is said
@@ -192,7 +194,13 @@ finish_says size s begun some added =
     ∙ reader_says s some person added
 
 -- only an argument can be wrong with a draft that was begun and added to
-pub begun_says : (draft : Draft Filled) (call : Call) → Begun draft → finish_result (length draft.memory.now) draft.state.count (said_with draft call) ≡ arguments_result call (6 + 2 * draft.state.count)
-begun_says draft call b =
-    subst (λ count. finish_result (length draft.memory.now) count (said_with draft call) ≡ arguments_result call (6 + 2 * count)) b.all
-    (finish_says (length draft.memory.now) (said_with draft call) b.begun (omega (arith, b.some, b.all)) b.added)
+pub begun_says : (draft : Draft (List Post)) (call : Call) → Begun draft → finish_result (length draft.memory.now) (length draft.state) (said_with draft call) ≡ arguments_result call (6 + 2 * length draft.state)
+begun_says draft call b = finish_says (length draft.memory.now) (said_with draft call) b.begun b.some b.added
+
+-- where the posts are seated, a finish says what the writer says of the message
+pub finish_is : (draft : Draft (List Post)) (call : Call) (sitting : Sitting) → length sitting.posts ≡ 4 → sitting.person ≡ draft.person → take sitting.count sitting.posts ≡ draft.state → finish_result (length draft.memory.now) (length draft.state) (said_with draft call) ≡ verdict (write_result (said record { sitting = sitting; call = call }) (length draft.memory.now))
+finish_is draft call sitting all person posts =
+    let size = length draft.memory.now in
+    let seat : seat_result (length draft.state) draft.state ≡ Ok tt = rw posts at (seated sitting.posts sitting.count sitting.some sitting.few (omega (arith, all, sitting.few)) sitting.apart) in
+    ap (λ s. then s (verdict (write_result (said_with draft call) size))) seat
+    ∙ (λ i. verdict (write_result record { person = sym person i; posts = sym posts i; call = call } size))

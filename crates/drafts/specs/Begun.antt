@@ -8,22 +8,24 @@ use Rattle.messages.specs.declared.call.Call.TheVariants.{Decide, Grant, Take, T
 use Rattle.messages.specs.declared.fault.MessageFault.{MessageFault}
 use Rattle.messages.specs.declared.fault.MessageFault.TheVariants.{Field}
 use Rattle.messages.specs.declared.post.Post.{Post}
-use Rattle.drafts.specs.Drafts.{posts_of}
 use Rattle.drafts.specs.Posts.{add_result}
 use Rattle.drafts.specs.Steps.{begin_result}
 use Rattle.drafts.specs.declared.draft.Draft.{Draft}
-use Rattle.drafts.specs.declared.draft.Filled.{Filled}
 
 -- the post with a place may be added behind those before it
 abbrev pub added_at : List Post → ℕ → Result (Unit {0}) MessageFault
 added_at posts k = add_result (take k posts) (slice_index_or posts k no_post)
 
--- the draft was begun, and each of its posts was added behind those before it
-pub record Begun (draft : Draft Filled) : Type 0 where
+-- the draft was begun, and each of these posts was added behind those before it
+pub record Grown {S : Type 0} (draft : Draft S) (posts : List Post) : Type 0 where
   pub begun : begin_result (length draft.memory.now) draft.person ≡ Ok tt
-  pub some : 0 < draft.state.count
-  pub all : length (posts_of draft.state) ≡ draft.state.count
-  pub added : every (length (posts_of draft.state)) (added_at (posts_of draft.state)) ≡ Ok tt
+  pub added : every (length posts) (added_at posts) ≡ Ok tt
+
+-- the draft was begun, and each of its posts was added behind those before it
+pub record Begun (draft : Draft (List Post)) : Type 0 where
+  pub begun : begin_result (length draft.memory.now) draft.person ≡ Ok tt
+  pub some : 0 < length draft.state
+  pub added : every (length draft.state) (added_at draft.state) ≡ Ok tt
 
 -- a number at an offset is below its limit
 abbrev pub below : ℕ → ℕ → ℕ → Result (Unit {0}) MessageFault

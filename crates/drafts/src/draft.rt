@@ -1,20 +1,12 @@
 // A draft. How far it has come is its type, so that a step out of turn is a compile error.
-mod with_posts;
-mod without_posts;
-mod written;
+mod filled;
+mod steps;
 
-use messages::{POSTS, Post};
+pub use filled::Filled;
 
 // There is no post yet.
 #[derive(Clone, Copy)]
 pub struct Empty;
-
-// The first places hold the posts so far.
-#[derive(Clone, Copy)]
-pub struct Filled {
-    posts: [Post; POSTS],
-    count: u8,
-}
 
 // The memory begins with a message of so many bytes.
 #[derive(Clone, Copy)]

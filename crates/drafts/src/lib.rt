@@ -1,7 +1,6 @@
 // Drafts: a message is put together step by step, over lent memory that gets its bytes at the end.
 #![tactic(auto)]
 
-mod compose;
 mod draft;
 mod posts;
 
