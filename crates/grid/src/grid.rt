@@ -3,6 +3,7 @@ ghost use Rattle.std.specs.Prelude.{◌≡◌, ℕ, ◌+◌, ◌*◌, ◌/◌, �
 ghost use Rattle.grid.specs.Grid.{grid_branches, grid_checked, grid_posted, grid_share};
 ghost use Rattle.orders.specs.Masks.{has_bit};
 ghost use Rattle.search.specs.Searches.{count_below};
+ghost use Rattle.std.proofs.Common.{rules, tests};
 
 use fields::PERSONS;
 use orders::has_bit;
@@ -139,4 +140,8 @@ impl<'c> Register for Grid<'c> {
     fn clear(&mut self) {
         self.cells.fill(0);
     }
+
+    ghost inside = { Prim.search (rules, tests) };
+
+    ghost shares = { Prim.search (rules, tests) };
 }

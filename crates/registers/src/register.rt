@@ -18,11 +18,9 @@ pub trait Register {
     // how many postings a branch may have
     ghost share: { Self → ℕ → ℕ };
 
-    // Tells how many branches it has. Nobody is posted, and there is no share, at another branch.
+    // Tells how many branches it has.
     fn branch_count(&self) -> u8
-        ensures count { result ≡ branches self.now }
-        ensures inside { Inside (posted self.now) (branches self.now) }
-        ensures shares { OwnShares (branches self.now) (share self.now) };
+        ensures { result ≡ branches self.now };
 
     // Tells a branch's share; a branch that is not its own has none.
     fn share_of(&self, branch: u8) -> Option<u16>
@@ -52,4 +50,10 @@ pub trait Register {
     fn clear(&mut self)
         ensures leaves { (x y z : ℕ) → posted self.new x y z ≡ false }
         ensures keeps { KeepsShares (branches self.old) (share self.old) (branches self.new) (share self.new) };
+
+    // nobody is posted who is no person, to no role, or at a branch that is not the register's own
+    ghost inside: { (r : Self) → Inside (posted r) (branches r) };
+
+    // a branch that is not the register's own has no share
+    ghost shares: { (r : Self) → OwnShares (branches r) (share r) };
 }

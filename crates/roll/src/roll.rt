@@ -1,6 +1,7 @@
 // A roll of records in lent memory.
 ghost use Rattle.std.specs.Prelude.{◌≡◌, ℕ, ◌<◌, false, length, replicate, None, Ok, nat_le, slice_index};
 ghost use Rattle.refusals.specs.Checks.{all};
+ghost use Rattle.std.proofs.Common.{rules, tests};
 ghost use Rattle.roll.specs.Roll.{roll_checked, roll_part, roll_posted, roll_share, roll_start, shares_before};
 
 use fields::PERSONS;
@@ -169,4 +170,8 @@ impl<'p, 's> Register for Roll<'p, 's> {
     fn clear(&mut self) {
         self.records.fill(None);
     }
+
+    ghost inside = { Prim.search (rules, tests) };
+
+    ghost shares = { Prim.search (rules, tests) };
 }
