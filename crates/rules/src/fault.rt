@@ -65,7 +65,7 @@ impl EngineFault {
             EngineFault::NotCounting(place) => told(17, place as u16),
             EngineFault::AlreadySo(place) => told(18, place as u16),
             EngineFault::NothingFound(branch) => told(20, branch as u16),
-            EngineFault::Register(fault) => fault.refusal(),
+            EngineFault::Register(fault) => Refusal::from(fault),
         }
     }
 }
