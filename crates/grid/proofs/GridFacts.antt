@@ -34,12 +34,6 @@ module _ (cells : List ℕ) (branches : ℕ) where
             ∙ sym (grid_cell person role branch h k ∙ ap (λ t. t && has_bit (get_or cells (branch * 64 + person) 0) role) (le-ltb role 16 past))
       ]
 
-  -- nobody is posted where every cell is 0
-  pub grid_empty : ((k : ℕ) → get_or cells k 0 ≡ 0) → (x y z : ℕ) → grid_posted cells branches x y z ≡ false
-  grid_empty none x y z =
-      let bit : has_bit (get_or cells (z * 64 + x) 0) y ≡ false = ap (λ c. has_bit c y) (none (z * 64 + x)) ∙ no_bit y in
-      and_right (ltb x 64) _ (and_right (ltb y 16) _ (and_right (ltb z (grid_branches cells branches)) _ bit))
-
   -- a branch's row of cells has one for each person
   pub row_length : (branch : ℕ) → branch < grid_branches cells branches → length (take 64 (drop (branch * 64) cells)) ≡ 64
   row_length branch own = omega (arith, length-take 64 (drop (branch * 64) cells), length-drop (branch * 64) cells)
