@@ -3,7 +3,6 @@ use Rattle.std.proofs.Common.{◌≡◌, ℕ, ◌+◌, ◌*◌, ◌/◌, ◌<◌
 use Rattle.grid.specs.Grid.{grid_branches, grid_posted, grid_share}
 use Rattle.orders.specs.RowsFacts.{bit_past}
 use Rattle.orders.specs.Masks.{has_bit}
-use Rattle.registers.proofs.BitFacts.{no_bit}
 use Rattle.registers.proofs.PostingFacts.{count_same, postings_less, put_passes, take_passes}
 use Rattle.registers.specs.Meaning.{added, others_at, postings_at, put_checked, removed, same_posting, take_checked}
 use Rattle.search.specs.Searches.{count_below}
