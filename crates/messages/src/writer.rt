@@ -16,6 +16,7 @@ use crate::reader::check;
 use crate::sitting::Sitting;
 use arrayvec::ArrayVec;
 use fields::FieldFault;
+use refusals::must;
 
 // Adds the posts of the sitting to the bytes before them.
 fn add_posts(bytes: &mut ArrayVec<u8, MESSAGE>, sitting: &Sitting)
@@ -99,9 +100,7 @@ pub fn write(message: &Message, into: &mut [u8]) -> Result<usize, MessageFault>
     ensures leaves { MatchResult result (λ n. into.new ≡ written (said message.now) ++ drop n into.old) (λ _. into.new ≡ into.old) }
     ensures read_back { OnOk result ((message_result (written (said message.now)) ≡ Ok tt) × (said_in (written (said message.now)) ≡ said message.now)) }
 {
-    if into.len() < MESSAGE {
-        return Err(MessageFault::Field(FieldFault::Length(into.len())));
-    }
+    must(into.len() >= MESSAGE, FieldFault::Length(into.len()))?;
     let bytes = bytes_of(message);
     check(&bytes)?;
     into[..bytes.len()].copy_from_slice(&bytes);
