@@ -62,8 +62,7 @@ pub(crate) fn show_plan<W: Write>(plan: &Plan, out: &mut W) -> io::Result<()> {
 // Prints who sits, and under which posts.
 fn show_sitting<W: Write>(sitting: &Sitting, out: &mut W) -> io::Result<()> {
     write!(out, " (sitting: person {}", sitting.person)?;
-    for k in 0..sitting.count as usize {
-        let post = sitting.posts[k];
+    for post in &sitting.posts[..sitting.count as usize] {
         write!(out, ", role {} at branch {}", post.role, post.branch)?;
     }
     writeln!(out, ")")

@@ -1,22 +1,17 @@
 // Bytes written in hexadecimal.
+ghost use Rattle.std.specs.Prelude.{◌<◌, IfOk};
+
 use anyhow::{Context, anyhow};
 use std::alloc::Global;
 
 // The value of one digit.
-fn digit(byte: u8) -> Option<u8> {
-    match byte {
-        b'0'..=b'9' => Some(byte - b'0'),
-        b'a'..=b'f' => Some(byte - b'a' + 10),
-        b'A'..=b'F' => Some(byte - b'A' + 10),
-        _ => None,
-    }
-}
-
-// The byte of two digits.
-fn pair(high: u8, low: u8) -> anyhow::Result<u8> {
-    let high = digit(high).context("not a hexadecimal digit")?;
-    let low = digit(low).context("not a hexadecimal digit")?;
-    Ok(high.wrapping_mul(16).wrapping_add(low))
+fn digit(byte: u8) -> anyhow::Result<u8>
+    ensures { IfOk result (λ value. value < 16) }
+{
+    let value = char::from(byte)
+        .to_digit(16)
+        .context("not a hexadecimal digit")?;
+    Ok(value as u8)
 }
 
 // Adds the bytes of a group of digits.
@@ -24,8 +19,8 @@ fn add_group(group: &[u8], into: &mut Vec<u8>) -> anyhow::Result<()> {
     if group.len() % 2 != 0 {
         return Err(anyhow!("a group has two digits for each byte"));
     }
-    for k in 0..group.len() / 2 {
-        into.push(pair(group[2 * k], group[2 * k + 1])?)?;
+    for pair in group.chunks_exact(2) {
+        into.push(16 * digit(pair[0])? + digit(pair[1])?)?;
     }
     Ok(())
 }

@@ -8,8 +8,7 @@ mod hexadecimal;
 
 use anyhow::{Context, anyhow};
 use hexadecimal::bytes_of;
-use lines::{LINE, Word, write};
-use messages::Message;
+use lines::{LINE, Word, write_refusal};
 use plans::Plan;
 use refusals::Refusal;
 use std::alloc::Global;
@@ -18,36 +17,12 @@ use std::io::{BufRead, BufReader, BufWriter, Write};
 
 // Prints the line of a refusal under the word, or that the bytes are accepted.
 fn tell<W: Write>(word: Word, refused: Option<Refusal>, out: &mut W) -> io::Result<()> {
-    match refused {
-        Some(refusal) => {
-            let mut line = [0; LINE];
-            let end = write(
-                word,
-                refusal.number as u16,
-                refusal.layer as u16,
-                refusal.place,
-                &mut line,
-            );
-            out.write_all(&line[0..end])
-        }
-        None => out.write_all(b"accepted\n"),
-    }
-}
-
-// What the reader of plans refuses.
-fn plan_refusal(bytes: &[u8], plan: &mut Plan) -> Option<Refusal> {
-    match plans::read(bytes, plan) {
-        Ok(()) => None,
-        Err(fault) => Some(fault.refusal()),
-    }
-}
-
-// What the reader of messages refuses.
-fn message_refusal(bytes: &[u8], message: &mut Message) -> Option<Refusal> {
-    match messages::read(bytes, message) {
-        Ok(()) => None,
-        Err(fault) => Some(fault.refusal()),
-    }
+    let Some(refusal) = refused else {
+        return out.write_all(b"accepted\n");
+    };
+    let mut line = [0; LINE];
+    let end = write_refusal(word, refusal, &mut line);
+    out.write_all(&line[..end])
 }
 
 // Answers one line of the input.
@@ -58,13 +33,23 @@ fn answer<W: Write>(heap: Global, line: &str, plan: &mut Plan, out: &mut W) -> a
     }
     let (word, digits) = line.split_once(' ').context("a case has a word and bytes")?;
     let bytes = bytes_of(heap, digits)?;
-    if word == "plan" {
-        tell(Word::Plan, plan_refusal(&bytes, plan), out)?;
-    } else if word == "message" {
-        let mut message = messages::blank();
-        tell(Word::Unread, message_refusal(&bytes, &mut message), out)?;
-    } else {
-        return Err(anyhow!("a case is a plan or a message"));
+    match word {
+        "plan" => tell(
+            Word::Plan,
+            plans::read(&bytes, plan).err().map(Refusal::from),
+            out,
+        )?,
+        "message" => {
+            let mut message = messages::blank();
+            tell(
+                Word::Unread,
+                messages::read(&bytes, &mut message)
+                    .err()
+                    .map(Refusal::from),
+                out,
+            )?;
+        }
+        _ => return Err(anyhow!("a case is a plan or a message")),
     }
     Ok(())
 }

@@ -1,8 +1,7 @@
 // A grid and a roll alike: who is posted, and what is refused.
 use grid::Grid;
-use parts::FREE;
 use refusals::Refusal;
-use registers::{Register, RegisterFault};
+use registers::{Posting, Register, RegisterFault};
 use roll::Roll;
 use std::process::Abort;
 
@@ -15,11 +14,20 @@ fn numbers(number: u8, layer: u8, place: u16) -> Refusal {
     }
 }
 
+// Who is posted to which role at which branch.
+fn posting(person: u8, role: u8, branch: u8) -> Posting {
+    Posting {
+        person,
+        role,
+        branch,
+    }
+}
+
 // What is told of an answer: zeros where nothing is refused.
 fn told(answer: Result<(), RegisterFault>) -> Refusal {
     match answer {
         Ok(()) => numbers(0, 0, 0),
-        Err(fault) => fault.refusal(),
+        Err(fault) => Refusal::from(fault),
     }
 }
 
@@ -37,30 +45,30 @@ fn try_number<R: Register>(rt: &impl Abort, register: &mut R, n: u8) {
     let branches = register.branch_count();
     register.clear();
     assert_eq!(rt;
-        told(register.put(n, 0, 0)),
+        told(register.put(posting(n, 0, 0))),
         expected(n, 64, 0, numbers(0, 0, 0))
     );
     register.clear();
     assert_eq!(rt;
-        told(register.put(0, n, 0)),
+        told(register.put(posting(0, n, 0))),
         expected(n, 16, 1, numbers(0, 0, 0))
     );
     register.clear();
     assert_eq!(rt;
-        told(register.put(0, 0, n)),
+        told(register.put(posting(0, 0, n))),
         expected(n, branches, 2, numbers(0, 0, 0))
     );
     register.clear();
     assert_eq!(rt;
-        told(register.take(n, 0, 0)),
+        told(register.take(posting(n, 0, 0))),
         expected(n, 64, 0, numbers(20, 4, 0))
     );
     assert_eq!(rt;
-        told(register.take(0, n, 0)),
+        told(register.take(posting(0, n, 0))),
         expected(n, 16, 1, numbers(20, 4, 0))
     );
     assert_eq!(rt;
-        told(register.take(0, 0, n)),
+        told(register.take(posting(0, 0, n))),
         expected(n, branches, 2, numbers(20, 4, n as u16))
     );
 }
@@ -73,18 +81,18 @@ fn every_number<R: Register>(rt: &impl Abort, register: &mut R) {
 
 // Two persons in one role at branch 1, and one of them in another role too.
 fn two_persons<R: Register>(rt: &impl Abort, register: &mut R) {
-    assert_eq!(rt; told(register.put(5, 2, 1)), numbers(0, 0, 0));
-    assert_eq!(rt; told(register.put(6, 2, 1)), numbers(0, 0, 0));
-    assert_eq!(rt; told(register.put(5, 15, 1)), numbers(0, 0, 0));
-    assert_eq!(rt; told(register.put(6, 2, 1)), numbers(19, 4, 1));
+    assert_eq!(rt; told(register.put(posting(5, 2, 1))), numbers(0, 0, 0));
+    assert_eq!(rt; told(register.put(posting(6, 2, 1))), numbers(0, 0, 0));
+    assert_eq!(rt; told(register.put(posting(5, 15, 1))), numbers(0, 0, 0));
+    assert_eq!(rt; told(register.put(posting(6, 2, 1))), numbers(19, 4, 1));
     assert_eq!(rt; register.roles_of(5, 1), 32772);
     assert_eq!(rt; register.roles_of(5, 0), 0);
-    assert_eq!(rt; register.others(5, 2, 1), 1);
-    assert_eq!(rt; register.others(7, 2, 1), 2);
-    assert_eq!(rt; register.others(64, 2, 1), 0);
-    assert_eq!(rt; told(register.take(5, 2, 1)), numbers(0, 0, 0));
-    assert_eq!(rt; told(register.take(5, 2, 1)), numbers(20, 4, 1));
-    assert_eq!(rt; register.others(7, 2, 1), 1);
+    assert_eq!(rt; register.others(posting(5, 2, 1)), 1);
+    assert_eq!(rt; register.others(posting(7, 2, 1)), 2);
+    assert_eq!(rt; register.others(posting(64, 2, 1)), 0);
+    assert_eq!(rt; told(register.take(posting(5, 2, 1))), numbers(0, 0, 0));
+    assert_eq!(rt; told(register.take(posting(5, 2, 1))), numbers(20, 4, 1));
+    assert_eq!(rt; register.others(posting(7, 2, 1)), 1);
 }
 
 #[test]
@@ -99,7 +107,7 @@ fn a_grid(rt: HostRuntime) {
 
 #[test]
 fn a_roll(rt: HostRuntime) {
-    let mut records = [FREE; 6];
+    let mut records = [None; 6];
     let shares = [1, 3, 2];
     let mut register = Roll::new(&mut records, &shares, 3);
     assert_eq!(rt; register.share_of(1), Some(3));
@@ -110,32 +118,32 @@ fn a_roll(rt: HostRuntime) {
 
 #[test]
 fn a_full_branch(rt: HostRuntime) {
-    let mut records = [FREE; 6];
+    let mut records = [None; 6];
     let shares = [1, 1, 1, 2];
     let mut register = Roll::new(&mut records, &shares, 4);
-    assert_eq!(rt; told(register.put(0, 0, 3)), numbers(0, 0, 0));
-    assert_eq!(rt; told(register.put(1, 0, 3)), numbers(0, 0, 0));
-    assert_eq!(rt; told(register.put(2, 0, 3)), numbers(21, 4, 3));
-    assert_eq!(rt; told(register.put(0, 0, 3)), numbers(19, 4, 3));
-    assert_eq!(rt; told(register.take(0, 0, 3)), numbers(0, 0, 0));
-    assert_eq!(rt; told(register.put(2, 0, 3)), numbers(0, 0, 0));
+    assert_eq!(rt; told(register.put(posting(0, 0, 3))), numbers(0, 0, 0));
+    assert_eq!(rt; told(register.put(posting(1, 0, 3))), numbers(0, 0, 0));
+    assert_eq!(rt; told(register.put(posting(2, 0, 3))), numbers(21, 4, 3));
+    assert_eq!(rt; told(register.put(posting(0, 0, 3))), numbers(19, 4, 3));
+    assert_eq!(rt; told(register.take(posting(0, 0, 3))), numbers(0, 0, 0));
+    assert_eq!(rt; told(register.put(posting(2, 0, 3))), numbers(0, 0, 0));
 }
 
 #[test]
 fn unfit_memory(rt: HostRuntime) {
     assert_eq!(rt; told(Grid::check(&[0; 128], 2)), numbers(0, 0, 0));
     assert_eq!(rt; told(Grid::check(&[0; 127], 2)), numbers(22, 4, 127));
-    assert_eq!(rt; told(Roll::check(&[FREE; 5], &[3, 2], 2)), numbers(0, 0, 0));
+    assert_eq!(rt; told(Roll::check(&[None; 5], &[3, 2], 2)), numbers(0, 0, 0));
     assert_eq!(rt;
-        told(Roll::check(&[FREE; 4], &[3, 2], 2)),
+        told(Roll::check(&[None; 4], &[3, 2], 2)),
         numbers(22, 4, 4)
     );
     assert_eq!(rt;
-        told(Roll::check(&[FREE; 5], &[3, 2], 3)),
+        told(Roll::check(&[None; 5], &[3, 2], 3)),
         numbers(22, 4, 5)
     );
     assert_eq!(rt;
-        told(Roll::check(&[FREE; 5], &[0, 2], 2)),
+        told(Roll::check(&[None; 5], &[0, 2], 2)),
         numbers(22, 4, 5)
     );
 }

@@ -1,12 +1,13 @@
 -- What a grid says: of a cell's bits, of a cell written, and of empty cells.
-use Rattle.std.proofs.Common.{◌≡◌, ℕ, ◌+◌, ◌*◌, ◌/◌, ◌<◌, min, Bool, true, false, cond, not, ◌&&◌, ◌||◌, eqb, ltb, ◌⊎◌, List, length, get_or, set, Ok, sym, ap, ◌∙◌, subst, inl, inr, arith}
+use Rattle.std.proofs.Common.{◌≡◌, ℕ, ◌+◌, ◌*◌, ◌/◌, ◌<◌, min, Bool, true, false, cond, not, ◌&&◌, ◌||◌, eqb, ltb, ◌⊎◌, List, length, get_or, take, drop, set, Ok, sym, ap, ◌∙◌, subst, inl, inr, arith}
 use Rattle.grid.specs.Grid.{grid_branches, grid_posted, grid_share}
 use Rattle.orders.specs.RowsFacts.{bit_past}
 use Rattle.orders.specs.Masks.{has_bit}
 use Rattle.registers.proofs.BitFacts.{no_bit}
-use Rattle.registers.proofs.PostingFacts.{postings_less, put_passes, take_passes}
-use Rattle.registers.specs.Meaning.{added, postings_at, put_checked, removed, same_posting, take_checked}
-use Rattle.std.proofs.lemmas.List.{get_or-set_other, get_or-set_same, length-set}
+use Rattle.registers.proofs.PostingFacts.{count_same, postings_less, put_passes, take_passes}
+use Rattle.registers.specs.Meaning.{added, others_at, postings_at, put_checked, removed, same_posting, take_checked}
+use Rattle.search.specs.Searches.{count_below}
+use Rattle.std.proofs.lemmas.List.{get_or-drop, get_or-set_other, get_or-set_same, get_or-take, length-drop, length-set, length-take}
 use Rattle.std.proofs.lemmas.Bool.{and_from, and_left, and_right, cases_eq, cases_lt, cond-true, le-ltb, lt-ltb}
 use Rattle.std.proofs.lemmas.Bool.Decides.{nat_tests}
 
@@ -38,6 +39,20 @@ module _ (cells : List ℕ) (branches : ℕ) where
   grid_empty none x y z =
       let bit : has_bit (get_or cells (z * 64 + x) 0) y ≡ false = ap (λ c. has_bit c y) (none (z * 64 + x)) ∙ no_bit y in
       and_right (ltb x 64) _ (and_right (ltb y 16) _ (and_right (ltb z (grid_branches cells branches)) _ bit))
+
+  -- a branch's row of cells has one for each person
+  pub row_length : (branch : ℕ) → branch < grid_branches cells branches → length (take 64 (drop (branch * 64) cells)) ≡ 64
+  row_length branch own = omega (arith, length-take 64 (drop (branch * 64) cells), length-drop (branch * 64) cells)
+
+  row_cell : (person branch : ℕ) → person < 64 → get_or (take 64 (drop (branch * 64) cells)) person 0 ≡ get_or cells (branch * 64 + person) 0
+  row_cell person branch h = get_or-take 64 (drop (branch * 64) cells) person 0 h ∙ get_or-drop (branch * 64) cells person 0
+
+  -- the others of a row are the others posted
+  pub row_others : (person role branch : ℕ) → person < 64 → role < 16 → branch < grid_branches cells branches → count_below (length (take 64 (drop (branch * 64) cells))) (λ x. not (eqb x person) && has_bit (get_or (take 64 (drop (branch * 64) cells)) x 0) role) ≡ others_at (grid_posted cells branches) person role branch
+  row_others person role branch h r own =
+      ap (λ n. count_below n (λ x. not (eqb x person) && has_bit (get_or (take 64 (drop (branch * 64) cells)) x 0) role)) (row_length branch own)
+      ∙ count_same _ _ 64 (λ x k. ap (λ b. not (eqb x person) && b) (ap (λ c. has_bit c role) (row_cell x branch k) ∙ sym (grid_bit x role branch k r own)))
+      ∙ sym (cond-true (ltb person 64) _ 0 (lt-ltb person 64 h))
 
 -- a cell written
 module _ (cells : List ℕ) (branches person role branch at v : ℕ) (place : at ≡ branch * 64 + person) (own-person : person < 64) (own-role : role < 16) (own-branch : branch < grid_branches cells branches) where

@@ -1,12 +1,14 @@
 // A grid of cells in lent memory.
-ghost use Rattle.std.specs.Prelude.{◌≡◌, ℕ, ◌+◌, ◌*◌, ◌/◌, min, false, not, ◌&&◌, length, replicate, Ok, ◌==◌};
+ghost use Rattle.std.specs.Prelude.{◌≡◌, ℕ, ◌+◌, ◌*◌, ◌/◌, ◌<◌, min, false, not, ◌&&◌, length, take, drop, replicate, Ok, ◌==◌, slice_index};
 ghost use Rattle.grid.specs.Grid.{grid_branches, grid_checked, grid_posted, grid_share};
 ghost use Rattle.orders.specs.Masks.{has_bit};
+ghost use Rattle.search.specs.Searches.{count_below};
+ghost use Rattle.std.proofs.Common.{rules, tests};
 
 use fields::PERSONS;
 use orders::has_bit;
 use refusals::must;
-use registers::{Register, RegisterFault, check_numbers, with_bit, without_bit};
+use registers::{Posting, Register, RegisterFault, with_bit, without_bit};
 
 // The postings that a branch has room for: each of 64 persons in each of 16 roles.
 const SHARE: u16 = 1024;
@@ -32,11 +34,21 @@ fn rows_of(items: usize, branches: u8) -> u8
     (items / PERSONS as usize).min(branches as usize) as u8
 }
 
-// Tells whether the cell of `other` posts somebody else than `person` to a role.
-fn is_other(cell: u16, other: u8, person: u8, role: u8) -> bool
-    ensures { result ≡ (not (other == person) && has_bit cell role) }
+// Tells whether the cell of `other` posts somebody else to a posting's role.
+fn is_other(other: usize, cell: u16, posting: Posting) -> bool
+    ensures { result ≡ (not (other == posting.person) && has_bit cell posting.role) }
 {
-    other != person && has_bit(cell, role)
+    other != posting.person as usize && has_bit(cell, posting.role)
+}
+
+// How many persons of a row other than a posting's are posted to its role.
+fn others_in(row: &[u16], posting: Posting) -> usize
+    ensures { result ≡ count_below (length row.now) (λ x. not (x == posting.person) && has_bit (slice_index row.now x) posting.role) }
+{
+    row.iter()
+        .enumerate()
+        .filter(|(other, cell)| is_other(*other, **cell, posting))
+        .count()
 }
 
 impl<'c> Grid<'c> {
@@ -60,6 +72,15 @@ impl<'c> Grid<'c> {
         cells.fill(0);
         Grid { cells, branches }
     }
+
+    // The cells of a branch that it has, one for each person.
+    fn row(&self, branch: u8) -> &[u16]
+        requires { branch < grid_branches self.now.cells.now self.now.branches }
+        ensures { result.now ≡ take 64 (drop (branch * 64) self.now.cells.now) }
+    {
+        let start = place(0, branch);
+        &self.cells[start..start + PERSONS as usize]
+    }
 }
 
 impl<'c> Register for Grid<'c> {
@@ -74,11 +95,7 @@ impl<'c> Register for Grid<'c> {
     }
 
     fn share_of(&self, branch: u8) -> Option<u16> {
-        if branch < self.branch_count() {
-            Some(SHARE)
-        } else {
-            None
-        }
+        (branch < self.branch_count()).then_some(SHARE)
     }
 
     fn roles_of(&self, person: u8, branch: u8) -> u16 {
@@ -89,38 +106,42 @@ impl<'c> Register for Grid<'c> {
         }
     }
 
-    fn others(&self, person: u8, role: u8, branch: u8) -> u8 {
-        if check_numbers(self.branch_count(), person, role, branch).is_err() {
+    fn others(&self, posting: Posting) -> u8 {
+        if posting.check(self.branch_count()).is_err() {
             return 0;
         }
-        let mut count = 0;
-        for other in 0..PERSONS {
-            if is_other(self.cells[place(other, branch)], other, person, role) {
-                count += 1;
-            }
-        }
-        count
+        others_in(self.row(posting.branch), posting) as u8
     }
 
-    fn put(&mut self, person: u8, role: u8, branch: u8) -> Result<(), RegisterFault> {
-        check_numbers(self.branch_count(), person, role, branch)?;
-        let at = place(person, branch);
+    fn put(&mut self, posting: Posting) -> Result<(), RegisterFault> {
+        posting.check(self.branch_count())?;
+        let at = place(posting.person, posting.branch);
         let cell = self.cells[at];
-        must(!has_bit(cell, role), RegisterFault::Posted(branch))?;
-        self.cells[at] = with_bit(cell, role);
+        must(
+            !has_bit(cell, posting.role),
+            RegisterFault::Posted(posting.branch),
+        )?;
+        self.cells[at] = with_bit(cell, posting.role);
         Ok(())
     }
 
-    fn take(&mut self, person: u8, role: u8, branch: u8) -> Result<(), RegisterFault> {
-        check_numbers(self.branch_count(), person, role, branch)?;
-        let at = place(person, branch);
+    fn take(&mut self, posting: Posting) -> Result<(), RegisterFault> {
+        posting.check(self.branch_count())?;
+        let at = place(posting.person, posting.branch);
         let cell = self.cells[at];
-        must(has_bit(cell, role), RegisterFault::NotPosted(branch))?;
-        self.cells[at] = without_bit(cell, role);
+        must(
+            has_bit(cell, posting.role),
+            RegisterFault::NotPosted(posting.branch),
+        )?;
+        self.cells[at] = without_bit(cell, posting.role);
         Ok(())
     }
 
     fn clear(&mut self) {
         self.cells.fill(0);
     }
+
+    ghost inside = { Prim.search (rules, tests) };
+
+    ghost shares = { Prim.search (rules, tests) };
 }

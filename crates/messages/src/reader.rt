@@ -3,10 +3,12 @@ ghost use Rattle.std.specs.Prelude.{◌≡◌, IfOk, MatchResult, OnOk};
 ghost use Rattle.refusals.specs.Checks.{in_order, verdict};
 ghost use Rattle.fields.specs.Bytes.{byte_at};
 ghost use Rattle.fields.specs.Fields.{field_checked};
+ghost use Rattle.fields.specs.Records.{filled};
 ghost use Rattle.messages.specs.Calls.{kind_number};
 ghost use Rattle.messages.specs.Numbers.{within};
 ghost use Rattle.messages.specs.Reading.{field_steps, message_result, Reads};
-ghost use Rattle.messages.specs.Said.{said, written};
+ghost use Rattle.messages.specs.Posts.{no_post};
+ghost use Rattle.messages.specs.Said.{post_in, said, written};
 
 use crate::arguments::{check_arguments, read_call, width};
 use crate::fault::MessageFault;
@@ -45,31 +47,29 @@ fn check_fields(bytes: &[u8], count: u8) -> Result<CallKind, FieldFault>
     Ok(kind)
 }
 
-// The message that the bytes say, or the first thing that is wrong with them.
-fn message(bytes: &[u8]) -> Result<Message, MessageFault>
+// The posts of a message that has so many, and the empty post behind the last.
+fn posts_in(bytes: &[u8], count: u8) -> [Post; POSTS]
+    ensures { result ≡ filled 4 count no_post (post_in bytes.now) }
+{
+    read_list(bytes, POSTS_AT, count as u16)
+}
+
+// All checks of a message, in the order of the format; says the kind of call.
+fn check_all(bytes: &[u8]) -> Result<CallKind, MessageFault>
     ensures answer { verdict result ≡ message_result bytes.now }
-    ensures reads { IfOk result (λ message. Reads bytes.now message) }
-    ensures written_back { IfOk result (λ message. written (said message) ≡ bytes.now) }
+    ensures kind { IfOk result (λ kind. kind_number kind ≡ byte_at bytes.now 3) }
 {
     let count = byte(bytes, COUNT_AT);
     let kind = check_fields(bytes, count)?;
-    let posts = read_list::<Post, POSTS>(bytes, POSTS_AT, count as u16);
-    check_apart(&posts, count)?;
-    Ok(Message {
-        sitting: Sitting {
-            person: byte(bytes, PERSON_AT),
-            count,
-            posts,
-        },
-        call: read_call(bytes, kind, offset::<Post>(POSTS_AT, count as u16)),
-    })
+    check_apart(&posts_in(bytes, count), count)?;
+    Ok(kind)
 }
 
 // Says the first thing that is wrong with the message.
 pub fn check(bytes: &[u8]) -> Result<(), MessageFault>
     ensures { result ≡ message_result bytes.now }
 {
-    message(bytes)?;
+    check_all(bytes)?;
     Ok(())
 }
 
@@ -79,6 +79,15 @@ pub fn read(bytes: &[u8], into: &mut Message) -> Result<(), MessageFault>
     ensures leaves { MatchResult result (λ _. Reads bytes.now into.new) (λ _. into.new ≡ into.old) }
     ensures written_back { OnOk result (written (said into.new) ≡ bytes.now) }
 {
-    *into = message(bytes)?;
+    let kind = check_all(bytes)?;
+    let count = byte(bytes, COUNT_AT);
+    *into = Message {
+        sitting: Sitting {
+            person: byte(bytes, PERSON_AT),
+            count,
+            posts: posts_in(bytes, count),
+        },
+        call: read_call(bytes, kind, offset::<Post>(POSTS_AT, count as u16)),
+    };
     Ok(())
 }

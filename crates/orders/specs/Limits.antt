@@ -1,13 +1,13 @@
 -- What a check of a number against a limit, and then of a row, says.
 use Rattle.std.specs.Prelude.{◌≡◌, ℕ, ◌≤◌, Bool, true, false, is_ok, Ok, Err, Result, nat_le, refl}
-use Rattle.std.proofs.Common.{ap, arith}
+use Rattle.std.proofs.Common.{ap}
 use Rattle.std.proofs.lemmas.Bool.{le-leb, leb-true}
 use Rattle.refusals.specs.Checks.{must, then}
 
 both : {F : Type 0} (test : Bool) (fault : F) (row : Result (Unit {0}) F) → is_ok (then (must test fault) row) ≡ true → (test ≡ true) × (row ≡ Ok tt)
 both true fault (Ok tt) e = (refl, refl)
-both true fault (Err f) e = let z : ◌≡◌ {A = ℕ} 0 1 = cc in absurd (omega arith)
-both false fault row e = let z : ◌≡◌ {A = ℕ} 0 1 = cc in absurd (omega arith)
+both true fault (Err f) e = cc
+both false fault row e = cc
 
 -- where both passed, the limit was met, and the row passed
 pub limit_passed : {F : Type 0} (n most : ℕ) (fault : F) (row : Result (Unit {0}) F) → is_ok (then (must (nat_le n most) fault) row) ≡ true → (n ≤ most) × (row ≡ Ok tt)

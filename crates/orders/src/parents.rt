@@ -5,6 +5,7 @@ ghost use Rattle.refusals.specs.Checks.{verdict};
 ghost use Rattle.orders.specs.ParentsFacts.{parents_lower, tree_antisymmetric, tree_inside, tree_reflexive, tree_transitive};
 
 use crate::order::Order;
+use refusals::must;
 
 // The most members that an order by parents has.
 pub const MOST_PARENTS: usize = 64;
@@ -37,18 +38,18 @@ fn stands_lower(member: u8, parent: u8) -> bool
 
 impl Parents {
     // Makes the order of the first `count` parents, or tells what is wrong with them.
+    #[tactic(auto, using(refusals::proofs::Rows::every_stops))]
     pub fn new(parents: [u8; MOST_PARENTS], count: u8) -> Result<Parents, ParentsFault>
         ensures answer { verdict result ≡ parents_checked parents count }
         ensures holds { IfOk result (λ o. (o.parents ≡ parents) × (o.count ≡ count)) }
         ensures top { IfOk result (λ o. (b : ℕ) → b < count → tree_above o.parents o.count 0 b ≡ true) }
     {
-        if count as usize > MOST_PARENTS {
-            return Err(ParentsFault::TooMany);
-        }
+        must(count as usize <= MOST_PARENTS, ParentsFault::TooMany)?;
         for m in 0..count {
-            if !stands_lower(m, parents[m as usize]) {
-                return Err(ParentsFault::NotLower(m));
-            }
+            must(
+                stands_lower(m, parents[m as usize]),
+                ParentsFault::NotLower(m),
+            )?;
         }
         Ok(Parents { parents, count })
     }

@@ -1,11 +1,12 @@
 // An order kept as a row of bits for each member.
 ghost use Rattle.std.specs.Prelude.{◌≡◌, true, is_ok, IfOk, slice_index};
-ghost use Rattle.orders.specs.Rows.{bit_covered, covers, row_above, row_stands, rows_checked, stands_over, stands_over_all};
+ghost use Rattle.orders.specs.Rows.{covers, row_above, row_stands, rows_checked, stands_over, stands_over_all};
 ghost use Rattle.refusals.specs.Checks.{verdict};
 ghost use Rattle.orders.specs.RowsFacts.{above_inside, rows_antisymmetric, rows_reflexive, rows_transitive};
 
 use crate::masks::{has_bit, names_members};
 use crate::order::Order;
+use refusals::must;
 
 // The most members that an order by rows has, and the bits of a row.
 pub const MOST_ROWS: usize = 16;
@@ -30,17 +31,14 @@ pub enum RowsFault {
 
 impl Rows {
     // Makes the order of the first `count` rows, or tells what is wrong with them.
+    #[tactic(auto, using(refusals::proofs::Rows::every_stops))]
     pub fn new(rows: [u16; MOST_ROWS], count: u8) -> Result<Rows, RowsFault>
         ensures answer { verdict result ≡ rows_checked 16 rows count }
         ensures holds { IfOk result (λ o. (o.rows ≡ rows) × (o.count ≡ count)) }
     {
-        if count as usize > MOST_ROWS {
-            return Err(RowsFault::TooMany);
-        }
+        must(count as usize <= MOST_ROWS, RowsFault::TooMany)?;
         for q in 0..count {
-            if !row_stands(&rows, count, q) {
-                return Err(RowsFault::Row(q));
-            }
+            must(row_stands(&rows, count, q), RowsFault::Row(q))?;
         }
         Ok(Rows { rows, count })
     }
@@ -72,14 +70,11 @@ impl Order for Rows {
 fn row_of(rows: &[u16; MOST_ROWS], member: u8) -> u16
     ensures { result ≡ slice_index rows.now member }
 {
-    if (member as usize) < MOST_ROWS {
-        rows[member as usize]
-    } else {
-        0
-    }
+    rows.get(member as usize).copied().unwrap_or(0)
 }
 
 // Tells whether the row of member `q` names `q`, none but members, and stands over the rows that it names.
+// (Rows and count stay two parameters: a struct of both would be longer than what it saves in this function and the next.)
 fn row_stands(rows: &[u16; MOST_ROWS], count: u8, q: u8) -> bool
     ensures { result ≡ row_stands 16 rows.now count q }
 {
@@ -91,12 +86,8 @@ fn row_stands(rows: &[u16; MOST_ROWS], count: u8, q: u8) -> bool
 fn stands_over_all(rows: &[u16; MOST_ROWS], count: u8, q: u8) -> bool
     ensures { result ≡ stands_over_all 16 rows.now count q }
 {
-    for p in 0..count {
-        if !stands_over(row_of(rows, q), q, row_of(rows, p), p) {
-            return false;
-        }
-    }
-    true
+    let row = row_of(rows, q);
+    (0..count).all(|p| stands_over(row, q, row_of(rows, p), p))
 }
 
 // Tells whether the row of member `q` is right about `p`: where it names `p`, it covers the other row, p's, which does not
@@ -111,17 +102,5 @@ fn stands_over(row: u16, q: u8, other: u16, p: u8) -> bool
 fn row_covers(upper: u16, lower: u16) -> bool
     ensures { result ≡ covers 16 upper lower }
 {
-    for k in 0..MOST_ROWS as u8 {
-        if !bit_covered(upper, lower, k) {
-            return false;
-        }
-    }
-    true
-}
-
-// Tells whether the upper row names what the lower names at `k`, if anything.
-fn bit_covered(upper: u16, lower: u16, k: u8) -> bool
-    ensures { result ≡ bit_covered upper lower k }
-{
-    !has_bit(lower, k) || has_bit(upper, k)
+    (0..MOST_ROWS as u8).all(|k| !has_bit(lower, k) || has_bit(upper, k))
 }

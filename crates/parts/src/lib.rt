@@ -2,7 +2,5 @@
 #![tactic(auto)]
 
 mod part;
-mod posting;
 
 pub use part::{holds, others_in, remove_from, roles_in, spare_in};
-pub use posting::{FREE, Posting};

@@ -1,62 +1,37 @@
 // One branch's part of a roll: what is told of its records, and where one may be written.
-ghost use Rattle.std.specs.Prelude.{◌≡◌, ℕ, true, false, not, ◌&&◌, ◌||◌, map, length, if◌then◌else◌, ◌==◌, nat_eq, nat_lt, slice_index, slice_index_or, slice_set};
+ghost use Rattle.std.specs.Prelude.{◌≡◌, ℕ, false, not, ◌&&◌, ◌||◌, map, length, MatchOption, ◌==◌, nat_lt, slice_index, slice_index_or};
 ghost use Rattle.orders.specs.Masks.{has_bit};
-ghost use Rattle.parts.specs.Part.{among, is_other, is_posting, posts, spare, without};
+ghost use Rattle.parts.specs.Part.{among, is_other, posts, spare, without};
+ghost use Rattle.registers.specs.Meaning.{is_posting};
 ghost use Rattle.search.specs.Searches.{count_below, first_below};
 
-use crate::posting::{FREE, Posting};
 use fields::{PERSONS, ROLES};
 use orders::has_bit;
-use registers::with_bit;
+use registers::{Posting, with_bit};
 use search::{Sought, first};
 
 // A place for each person.
 const PLACES: usize = 64;
 
-// A posting that is sought among records.
-#[derive(Clone, Copy)]
-struct Exactly {
-    person: u8,
-    role: u8,
-    branch: u8,
-}
-
-impl Sought<Posting> for Exactly {
-    ghost seeks = { λ e it. is_posting it e.person e.role e.branch };
-
-    fn fits(&self, item: &Posting) -> bool {
-        item.used
-            && self.branch == item.branch
-            && self.person == item.person
-            && self.role == item.role
-    }
-}
-
 // Tells whether a posting is in a part.
-pub fn holds(part: &[Posting], person: u8, role: u8, branch: u8) -> bool
-    ensures { result ≡ among part.now (length part.now) person role branch }
+pub fn holds(part: &[Option<Posting>], posting: Posting) -> bool
+    ensures { result ≡ among part.now (length part.now) posting.person posting.role posting.branch }
 {
-    let sought = Exactly {
-        person,
-        role,
-        branch,
-    };
-    first(part, &sought).is_some()
+    first(part, &posting).is_some()
 }
 
 // The mask with the role of a record that posts a person at a branch.
-fn with_role(mask: u16, record: Posting, person: u8, branch: u8) -> u16
+fn with_role(mask: u16, record: Option<Posting>, person: u8, branch: u8) -> u16
     ensures { (q : ℕ) → has_bit result q ≡ (has_bit mask q || (nat_lt q 16 && is_posting «record» person q branch)) }
 {
-    if record.used && branch == record.branch && person == record.person {
-        with_bit(mask, record.role)
-    } else {
-        mask
+    match record {
+        Some(it) if branch == it.branch && person == it.person => with_bit(mask, it.role),
+        _ => mask,
     }
 }
 
 // Tells to which roles a part posts a person.
-pub fn roles_in(part: &[Posting], person: u8, branch: u8) -> u16
+pub fn roles_in(part: &[Option<Posting>], person: u8, branch: u8) -> u16
     ensures { (q : ℕ) → has_bit result q ≡ (nat_lt q 16 && among part.now (length part.now) person q branch) }
 {
     let mut mask = 0;
@@ -66,99 +41,87 @@ pub fn roles_in(part: &[Posting], person: u8, branch: u8) -> u16
     mask
 }
 
-// Tells whether a record posts somebody else than a person to a role at a branch.
-fn is_other(record: Posting, person: u8, role: u8, branch: u8) -> bool
-    ensures { result ≡ is_other «record» person role branch }
+// Tells whether `other` is of somebody else than a posting, to the same role at the same branch.
+fn is_other(other: Posting, posting: Posting) -> bool
+    ensures { result ≡ is_other other posting.person posting.role posting.branch }
 {
-    record.used
-        && branch == record.branch
-        && role == record.role
-        && record.person < PERSONS
-        && record.person != person
+    posting.branch == other.branch
+        && posting.role == other.role
+        && other.person < PERSONS
+        && other.person != posting.person
 }
 
-// Marks whom a record posts, if it is somebody else who is not yet marked, and tells whether that is so.
-fn mark(seen: &mut [bool; PLACES], record: Posting, person: u8, role: u8, branch: u8) -> bool
-    ensures told { result ≡ (is_other «record» person role branch && not (slice_index_or seen.old «record».person false)) }
-    ensures marked { seen.new ≡ (if result then slice_set seen.old «record».person true else seen.old) }
+// Marks whom a record posts, if it is somebody else than in a posting who is not yet marked, and tells whether that is so.
+fn mark(seen: &mut [bool; PLACES], record: Option<Posting>, posting: Posting) -> bool
+    ensures told { MatchOption «record» (result ≡ false) (λ it. result ≡ (is_other it posting.person posting.role posting.branch && not (slice_index_or seen.old it.person false))) }
+    ensures marked { (k : ℕ) → slice_index_or seen.new k false ≡ (slice_index_or seen.old k false || (result && is_posting «record» k posting.role posting.branch)) }
 {
-    if !is_other(record, person, role, branch) || seen[record.person as usize] {
+    let Some(other) = record else {
+        return false;
+    };
+    if !is_other(other, posting) || seen[other.person as usize] {
         return false;
     }
-    seen[record.person as usize] = true;
+    seen[other.person as usize] = true;
     true
 }
 
-// Tells how many persons other than this one a part posts to a role.
-pub fn others_in(part: &[Posting], person: u8, role: u8, branch: u8) -> u8
-    ensures { result ≡ count_below 64 (λ x. not (x == person) && among part.now (length part.now) x role branch) }
+// Tells how many persons other than a posting's a part posts to its role.
+pub fn others_in(part: &[Option<Posting>], posting: Posting) -> u8
+    ensures { result ≡ count_below 64 (λ x. not (x == posting.person) && among part.now (length part.now) x posting.role posting.branch) }
 {
     let mut seen = [false; PLACES];
     let mut count = 0;
     for record in part {
-        if mark(&mut seen, *record, person, role, branch) {
+        if mark(&mut seen, *record, posting) {
             count += 1;
         }
     }
     count
 }
 
-// Tells whether a record posts somebody at a branch.
-fn is_at(record: Posting, branch: u8) -> bool
-    ensures { result ≡ posts «record» branch }
+// Tells whether a posting is of somebody at a branch.
+fn is_at(posting: Posting, branch: u8) -> bool
+    ensures { result ≡ posts posting branch }
 {
-    record.used
-        && record.branch == branch
-        && record.person < PERSONS
-        && (record.role as usize) < ROLES
+    posting.branch == branch && posting.person < PERSONS && (posting.role as usize) < ROLES
 }
 
-// Notes what a record posts, if that is not yet noted, and tells whether that is so.
-fn note(seen: &mut [u16; PLACES], record: Posting, branch: u8) -> bool
-    ensures told { result ≡ (posts «record» branch && not (has_bit (slice_index_or seen.old «record».person 0) «record».role)) }
-    ensures noted { (k q : ℕ) → has_bit (slice_index seen.new k) q ≡ (has_bit (slice_index seen.old k) q || (result && (nat_eq k «record».person && nat_eq q «record».role))) }
+// Notes what a record posts at a branch, if that is not yet noted, and tells whether that is so.
+fn note(seen: &mut [u16; PLACES], record: Option<Posting>, branch: u8) -> bool
+    ensures told { MatchOption «record» (result ≡ false) (λ it. result ≡ (posts it branch && not (has_bit (slice_index seen.old it.person) it.role))) }
+    ensures noted { (k q : ℕ) → has_bit (slice_index seen.new k) q ≡ (has_bit (slice_index seen.old k) q || (result && is_posting «record» k q branch)) }
 {
-    if !is_at(record, branch) {
+    let Some(it) = record else {
+        return false;
+    };
+    if !is_at(it, branch) || has_bit(seen[it.person as usize], it.role) {
         return false;
     }
-    let roles = seen[record.person as usize];
-    if has_bit(roles, record.role) {
-        return false;
-    }
-    seen[record.person as usize] = with_bit(roles, record.role);
+    seen[it.person as usize] = with_bit(seen[it.person as usize], it.role);
     true
 }
 
 // Finds the first record of a part that may be written over.
-pub fn spare_in(part: &[Posting], branch: u8) -> Option<usize>
+pub fn spare_in(part: &[Option<Posting>], branch: u8) -> Option<usize>
     ensures { result ≡ first_below (length part.now) (spare part.now branch) }
 {
     let mut seen = [0; PLACES];
-    for i in 0..part.len() {
-        if !note(&mut seen, part[i], branch) {
+    for (i, record) in part.iter().enumerate() {
+        if !note(&mut seen, *record, branch) {
             return Some(i);
         }
     }
     None
 }
 
-// The record, or a free one where it is a posting that is to go.
-fn remaining(record: Posting, person: u8, role: u8, branch: u8) -> Posting
-    ensures { result ≡ without person role branch «record» }
-{
-    let gone = Exactly {
-        person,
-        role,
-        branch,
-    };
-    if gone.fits(&record) { FREE } else { record }
-}
-
 // Frees every record of a part that is a posting.
-pub fn remove_from(part: &mut [Posting], person: u8, role: u8, branch: u8)
-    ensures { part.new ≡ map (without person role branch) part.old }
+pub fn remove_from(part: &mut [Option<Posting>], posting: Posting)
+    ensures { part.new ≡ map (without posting.person posting.role posting.branch) part.old }
 {
-    for i in 0..part.len() {
-        part[i] = remaining(part[i], person, role, branch);
+    for record in part.iter_mut() {
+        if posting.fits(record) {
+            *record = None;
+        }
     }
 }

@@ -1,4 +1,3 @@
 -- Lemmas that the proofs share.
 mod Filled
-mod Laid
 pub mod PlanOrders

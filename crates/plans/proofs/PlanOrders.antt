@@ -4,7 +4,7 @@ use Rattle.std.proofs.lemmas.List.FromFn.{get_or-map-range_with_len, length-map-
 use Rattle.std.proofs.lemmas.List.{get_or-map}
 use Rattle.std.proofs.lemmas.Bool.{and_parts, leb-true, lt-ltb, cond-true}
 use Rattle.refusals.specs.Checks.{must, in_order, every}
-use Rattle.refusals.proofs.Rows.{all_passed, must_true, must_of, every_at, every_of}
+use Rattle.refusals.proofs.Rows.{Passed, all_passed, must_true, must_of, every_at, every_of}
 use Rattle.fields.specs.Bytes.{byte_at}
 use Rattle.fields.specs.Fields.{field_checked}
 use Rattle.fields.specs.Records.{filled}
@@ -29,11 +29,11 @@ field_rule bytes at size rule e =
 
 fields_passed : (r : Result (Unit {0}) FieldFault) → of_fields r ≡ Ok tt → r ≡ Ok tt
 fields_passed (Ok tt) e = refl
-fields_passed (Err f) e = let z : ◌≡◌ {A = ℕ} 0 1 = cc in absurd (omega arith)
+fields_passed (Err f) e = cc
 
 rows_passed : (r : Result (Unit {0}) RowsFault) → of_rows r ≡ Ok tt → r ≡ Ok tt
 rows_passed (Ok tt) e = refl
-rows_passed (Err f) e = let z : ◌≡◌ {A = ℕ} 0 1 = cc in absurd (omega arith)
+rows_passed (Err f) e = cc
 
 -- what may be a parent in a plan stands lower in the order
 parent_lower : (top named lower : Bool) → cond top named lower ≡ true → (top || lower) ≡ true
@@ -71,22 +71,25 @@ module _ (bytes : List ℕ) (layout : Layout) where
       must_of (stands_lower k (get_or ps k 0)) (NotLower k)
       (ap (λ parent. stands_lower k parent) (parent_read n k f h (leb-true n 64 few)) ∙ parent_lower (eqb k 0) (eqb (byte_at bytes at) 0) (ltb (byte_at bytes at) k) allowed))
 
+-- the header, the branches, the roles and the principal of a plan that was read have passed
+body_passed : (bytes : List ℕ) → plan_result bytes ≡ Ok tt → Passed (body_steps bytes (layout_of bytes))
+unfolding plan_result
+body_passed bytes e =
+    let layout = layout_of bytes in
+    let fields = fields_passed (in_order (field_steps bytes layout)) (all_passed (plan_steps bytes layout) e).0 in
+    all_passed (body_steps bytes layout) (all_passed (field_steps bytes layout) fields).0
+
 -- every plan that was read gives both orders
 pub read_orders : (bytes : List ℕ) → plan_result bytes ≡ Ok tt → Ordered (plan_made bytes (layout_of bytes))
 unfolding plan_result plan_made layout_of branches_in roles_in
 read_orders bytes e =
     let layout = layout_of bytes in
-    let passed = all_passed (plan_steps bytes layout) e in
-    let fields = all_passed (field_steps bytes layout) (fields_passed (in_order (field_steps bytes layout)) passed.0) in
-    let body = all_passed (body_steps bytes layout) fields.0 in
-    record { branches = parents_pass bytes layout body.1.0 body.1.1.0; roles = rows_passed (rows_read bytes layout) passed.1.0 }
+    let body = body_passed bytes e in
+    record { branches = parents_pass bytes layout body.1.0 body.1.1.0; roles = rows_passed (rows_read bytes layout) (all_passed (plan_steps bytes layout) e).1.0 }
 
 -- and has a branch at least
 pub read_branches : (bytes : List ℕ) → plan_result bytes ≡ Ok tt → 0 < (plan_made bytes (layout_of bytes)).branch_count
-unfolding plan_result plan_made layout_of branches_in
+unfolding plan_made layout_of branches_in
 read_branches bytes e =
     let layout = layout_of bytes in
-    let passed = all_passed (plan_steps bytes layout) e in
-    let fields = all_passed (field_steps bytes layout) (fields_passed (in_order (field_steps bytes layout)) passed.0) in
-    let body = all_passed (body_steps bytes layout) fields.0 in
-    leb-true 1 layout.branches.count (count_passed bytes layout.branches 1 1 64 body.1.0).0
+    leb-true 1 layout.branches.count (count_passed bytes layout.branches 1 1 64 (body_passed bytes e).1.0).0

@@ -1,11 +1,12 @@
 // A branch: the publisher, which is branch 0 and stands at the top, a centre or a class.
 ghost use Rattle.std.specs.Prelude.{◌≡◌};
+ghost use Rattle.std.proofs.Common.{rules};
 ghost use Rattle.plans.specs.Branch.{may_be_parent, branch_checked, branch_at, no_branch};
 
 use crate::layout::Layout;
-use fields::{BRANCH_KINDS, FieldFault, Record, byte, field};
+use fields::{BRANCH_KINDS, FieldFault, Record, byte, check_below, field};
 
-#[derive(Clone, Copy)]
+#[derive(Clone, Copy, Default)]
 pub struct Branch {
     // the branch that it stands right under; for the top, itself
     pub parent: u8,
@@ -26,7 +27,9 @@ fn may_be_parent(parent: u8, number: u16) -> bool
 impl Record for Branch {
     type Scope = Layout;
 
-    ghost size = { 2 };
+    const WIDTH: u8 = 2;
+
+    ghost WIDTH = { 2 };
 
     ghost checked = { branch_checked };
 
@@ -34,14 +37,10 @@ impl Record for Branch {
 
     ghost empty = { no_branch };
 
-    fn width() -> u8 {
-        2
-    }
-
     fn check(bytes: &[u8], _layout: Layout, at: u32, number: u16) -> Result<(), FieldFault> {
         let at = at as usize;
         field(bytes, at, 1, may_be_parent(byte(bytes, at), number))?;
-        field(bytes, at + 1, 1, byte(bytes, at + 1) < BRANCH_KINDS)
+        check_below(bytes, at + 1, BRANCH_KINDS.into())
     }
 
     fn read(bytes: &[u8], at: u32) -> Branch {
@@ -52,7 +51,5 @@ impl Record for Branch {
         }
     }
 
-    fn blank() -> Branch {
-        Branch { parent: 0, kind: 0 }
-    }
+    ghost blank = { Prim.search rules };
 }

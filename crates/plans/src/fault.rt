@@ -4,7 +4,7 @@ ghost use Rattle.plans.specs.declared.fault.PlanFault.TheVariants.{Field as InFi
 ghost use Rattle.plans.specs.Refusals.{plan_refusal};
 
 use fields::FieldFault;
-use orders::RowsFault;
+use orders::{MOST_ROWS, RowsFault};
 use refusals::{Refusal, place};
 
 #[derive(Clone, Copy)]
@@ -33,28 +33,21 @@ impl From<RowsFault> for PlanFault {
     }
 }
 
-impl PlanFault {
-    // The three numbers that are told of the fault.
-    pub fn refusal(self) -> Refusal
-        ensures { result ≡ plan_refusal self }
-    {
-        match self {
-            PlanFault::Field(fault) => fault.refusal(),
-            PlanFault::Rows(RowsFault::TooMany) => Refusal {
-                number: 5,
-                layer: 2,
-                place: 16,
-            },
-            PlanFault::Rows(RowsFault::Row(role)) => Refusal {
-                number: 5,
-                layer: 2,
-                place: role as u16,
-            },
-            PlanFault::Repeated(at) => Refusal {
-                number: 6,
-                layer: 2,
-                place: place(at),
-            },
+// The three numbers that are told of the fault.
+impl From<PlanFault> for Refusal {
+    ghost from_gives = { λ fault r. r ≡ plan_refusal fault };
+
+    fn from(fault: PlanFault) -> Refusal {
+        let (number, at) = match fault {
+            PlanFault::Field(fault) => return Refusal::from(fault),
+            PlanFault::Rows(RowsFault::TooMany) => (5, MOST_ROWS),
+            PlanFault::Rows(RowsFault::Row(role)) => (5, usize::from(role)),
+            PlanFault::Repeated(at) => (6, at),
+        };
+        Refusal {
+            number,
+            layer: 2,
+            place: place(at),
         }
     }
 }

@@ -1,8 +1,12 @@
 // Where the lists of a plan stand in its bytes.
-ghost use Rattle.std.specs.Prelude.{◌≡◌, ◌+◌, ◌<◌};
-ghost use Rattle.plans.specs.Layout.{list_at, layout_of};
+ghost use Rattle.std.specs.Prelude.{◌≡◌, ◌+◌, ◌*◌, ◌^◌, ◌<◌};
+ghost use Rattle.plans.specs.Layout.{behind, list_at, layout_of};
 
-use fields::{byte, two};
+use crate::branch::Branch;
+use crate::line::Line;
+use crate::role::Role;
+use crate::set::Set;
+use fields::{Record, byte, two};
 
 // A list: the offset of its count, the offset of its first record, and the count.
 #[derive(Clone, Copy)]
@@ -24,6 +28,16 @@ pub struct Layout {
     pub pieces: Span,
 }
 
+impl Span {
+    // The offset right behind the last record of the list.
+    fn behind<T: Record>(self) -> u16
+        requires { self.first + T.WIDTH * self.count < 2 ^ 16 }
+        ensures { result ≡ behind self T.WIDTH }
+    {
+        self.first + u16::from(T::WIDTH) * self.count
+    }
+}
+
 // The list at an offset, its count one byte.
 fn list(bytes: &[u8], at: u16) -> Span
     requires { at < 65535 }
@@ -43,12 +57,12 @@ pub(crate) fn lay_out(bytes: &[u8]) -> Layout
     ensures { result ≡ layout_of bytes.now }
 {
     let branches = list(bytes, 3);
-    let roles = list(bytes, branches.first + 2 * branches.count);
-    let principal = roles.first + 4 * roles.count;
+    let roles = list(bytes, branches.behind::<Branch>());
+    let principal = roles.behind::<Role>();
     let grants = list(bytes, principal + 1);
-    let takes = list(bytes, grants.first + 6 * grants.count);
-    let sets = list(bytes, takes.first + 6 * takes.count);
-    let at = sets.first + 3 * sets.count;
+    let takes = list(bytes, grants.behind::<Line>());
+    let sets = list(bytes, takes.behind::<Line>());
+    let at = sets.behind::<Set>();
     let pieces = Span {
         at,
         first: at + 2,

@@ -1,12 +1,13 @@
 // A line of the grant list or of the take list: who governs whom, and what the person must hold and must not.
 ghost use Rattle.std.specs.Prelude.{◌≡◌};
+ghost use Rattle.std.proofs.Common.{rules};
 ghost use Rattle.plans.specs.Line.{same_pair, line_checked, line_at, no_line};
 
 use crate::layout::Layout;
-use fields::{FieldFault, Record, byte, field, two};
+use fields::{FieldFault, Record, byte, check_below, field, two};
 use orders::names_members;
 
-#[derive(Clone, Copy)]
+#[derive(Clone, Copy, Default)]
 pub struct Line {
     pub governing: u8,
     pub governed: u8,
@@ -28,7 +29,9 @@ impl Line {
 impl Record for Line {
     type Scope = Layout;
 
-    ghost size = { 6 };
+    const WIDTH: u8 = 6;
+
+    ghost WIDTH = { 6 };
 
     ghost checked = { line_checked };
 
@@ -36,15 +39,11 @@ impl Record for Line {
 
     ghost empty = { no_line };
 
-    fn width() -> u8 {
-        6
-    }
-
     fn check(bytes: &[u8], layout: Layout, at: u32, _number: u16) -> Result<(), FieldFault> {
         let at = at as usize;
         let roles = layout.roles.count;
-        field(bytes, at, 1, (byte(bytes, at) as u16) < roles)?;
-        field(bytes, at + 1, 1, (byte(bytes, at + 1) as u16) < roles)?;
+        check_below(bytes, at, roles)?;
+        check_below(bytes, at + 1, roles)?;
         field(bytes, at + 2, 2, names_members(two(bytes, at + 2), roles))?;
         field(bytes, at + 4, 2, names_members(two(bytes, at + 4), roles))
     }
@@ -59,12 +58,5 @@ impl Record for Line {
         }
     }
 
-    fn blank() -> Line {
-        Line {
-            governing: 0,
-            governed: 0,
-            needed: 0,
-            barred: 0,
-        }
-    }
+    ghost blank = { Prim.search rules };
 }

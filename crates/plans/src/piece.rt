@@ -1,10 +1,11 @@
 // A piece: a drill or a recording, with its kind and its home branch.
+ghost use Rattle.std.proofs.Common.{rules};
 ghost use Rattle.plans.specs.Piece.{piece_checked, piece_at, no_piece};
 
 use crate::layout::Layout;
-use fields::{FieldFault, PIECE_KINDS, Record, byte, field};
+use fields::{FieldFault, PIECE_KINDS, Record, byte, check_below};
 
-#[derive(Clone, Copy)]
+#[derive(Clone, Copy, Default)]
 pub struct Piece {
     pub kind: u8,
     pub home: u8,
@@ -13,7 +14,9 @@ pub struct Piece {
 impl Record for Piece {
     type Scope = Layout;
 
-    ghost size = { 2 };
+    const WIDTH: u8 = 2;
+
+    ghost WIDTH = { 2 };
 
     ghost checked = { piece_checked };
 
@@ -21,19 +24,10 @@ impl Record for Piece {
 
     ghost empty = { no_piece };
 
-    fn width() -> u8 {
-        2
-    }
-
     fn check(bytes: &[u8], layout: Layout, at: u32, _number: u16) -> Result<(), FieldFault> {
         let at = at as usize;
-        field(bytes, at, 1, byte(bytes, at) < PIECE_KINDS)?;
-        field(
-            bytes,
-            at + 1,
-            1,
-            (byte(bytes, at + 1) as u16) < layout.branches.count,
-        )
+        check_below(bytes, at, PIECE_KINDS.into())?;
+        check_below(bytes, at + 1, layout.branches.count)
     }
 
     fn read(bytes: &[u8], at: u32) -> Piece {
@@ -44,7 +38,5 @@ impl Record for Piece {
         }
     }
 
-    fn blank() -> Piece {
-        Piece { kind: 0, home: 0 }
-    }
+    ghost blank = { Prim.search rules };
 }

@@ -32,22 +32,23 @@ pub struct Plan {
 
 impl Plan {
     // A plan that holds nothing: a place to read into.
+    #[tactic(auto, unfolding(crate::specs::Plan::empty_plan))]
     pub fn empty() -> Plan
         ensures { result ≡ empty_plan }
     {
         Plan {
-            branches: [Branch::blank(); BRANCHES],
+            branches: [Branch::default(); BRANCHES],
             branch_count: 0,
-            roles: [Role::blank(); ROLES],
+            roles: [Role::default(); ROLES],
             role_count: 0,
             principal: 0,
-            grants: [Line::blank(); LINES],
+            grants: [Line::default(); LINES],
             grant_count: 0,
-            takes: [Line::blank(); LINES],
+            takes: [Line::default(); LINES],
             take_count: 0,
-            sets: [Set::blank(); SETS],
+            sets: [Set::default(); SETS],
             set_count: 0,
-            pieces: [Piece::blank(); PIECES],
+            pieces: [Piece::default(); PIECES],
             piece_count: 0,
         }
     }
@@ -69,24 +70,16 @@ impl Plan {
     }
 }
 
-// The parent of each branch.
+// The parent of each branch. (A function of its own: within `branch_order` this line leaves two clauses to written answers.)
 fn parents_of(branches: &[Branch; BRANCHES]) -> [u8; BRANCHES]
     ensures { result ≡ parents_of branches.now }
 {
-    let mut parents = [0; BRANCHES];
-    for k in 0..BRANCHES {
-        parents[k] = branches[k].parent;
-    }
-    parents
+    branches.map(|branch| branch.parent)
 }
 
-// The row of each role.
+// The row of each role, for the plan's order and for the reader's check.
 pub(crate) fn rows_of(roles: &[Role; ROLES]) -> [u16; ROLES]
     ensures { result ≡ rows_of roles.now }
 {
-    let mut rows = [0; ROLES];
-    for k in 0..ROLES {
-        rows[k] = roles[k].row;
-    }
-    rows
+    roles.map(|role| role.row)
 }

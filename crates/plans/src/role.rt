@@ -1,5 +1,6 @@
 // A role: the roles at or below it, the kinds of branches where it may stand, and how many may be posted to it.
 ghost use Rattle.std.specs.Prelude.{◌≡◌};
+ghost use Rattle.std.proofs.Common.{rules};
 ghost use Rattle.plans.specs.Role.{may_stand, role_checked, role_at, no_role};
 
 use crate::branch::Branch;
@@ -7,7 +8,7 @@ use crate::layout::Layout;
 use fields::{FieldFault, PERSONS, Record, byte, field, two};
 use orders::has_bit;
 
-#[derive(Clone, Copy)]
+#[derive(Clone, Copy, Default)]
 pub struct Role {
     // bit i: role i is at or below this one
     pub row: u16,
@@ -29,7 +30,9 @@ impl Role {
 impl Record for Role {
     type Scope = Layout;
 
-    ghost size = { 4 };
+    const WIDTH: u8 = 4;
+
+    ghost WIDTH = { 4 };
 
     ghost checked = { role_checked };
 
@@ -37,16 +40,12 @@ impl Record for Role {
 
     ghost empty = { no_role };
 
-    fn width() -> u8 {
-        4
-    }
-
     fn check(bytes: &[u8], _layout: Layout, at: u32, _number: u16) -> Result<(), FieldFault> {
         let at = at as usize;
         field(bytes, at, 2, true)?;
         field(bytes, at + 2, 1, true)?;
         let limit = byte(bytes, at + 3);
-        field(bytes, at + 3, 1, 1 <= limit && limit <= PERSONS)
+        field(bytes, at + 3, 1, (1..=PERSONS).contains(&limit))
     }
 
     fn read(bytes: &[u8], at: u32) -> Role {
@@ -58,11 +57,5 @@ impl Record for Role {
         }
     }
 
-    fn blank() -> Role {
-        Role {
-            row: 0,
-            kinds: 0,
-            limit: 0,
-        }
-    }
+    ghost blank = { Prim.search rules };
 }

@@ -10,15 +10,15 @@ then_passed a b e = ap (λ x. then x b) e
 
 then_first : {F : Type 0} (a b : Result (Unit {0}) F) → then a b ≡ Ok tt → a ≡ Ok tt
 then_first (Ok tt) b e = refl
-then_first (Err f) b e = let z : ◌≡◌ {A = ℕ} 0 1 = cc in absurd (omega arith)
+then_first (Err f) b e = cc
 
 then_second : {F : Type 0} (a b : Result (Unit {0}) F) → then a b ≡ Ok tt → b ≡ Ok tt
 then_second (Ok tt) b e = e
-then_second (Err f) b e = let z : ◌≡◌ {A = ℕ} 0 1 = cc in absurd (omega arith)
+then_second (Err f) b e = cc
 
 pub must_true : {F : Type 0} (test : Bool) (fault : F) → must test fault ≡ Ok tt → test ≡ true
 must_true true fault e = refl
-must_true false fault e = let z : ◌≡◌ {A = ℕ} 0 1 = cc in absurd (omega arith)
+must_true false fault e = cc
 
 -- one turn of a loop through the checks
 pub every_more : {F : Type 0} (check : ℕ → Result (Unit {0}) F) (n : ℕ) → every n check ≡ Ok tt → check n ≡ Ok tt → every (n + 1) check ≡ Ok tt

@@ -4,6 +4,7 @@ use Rattle.refusals.specs.Checks.{in_order, must}
 use Rattle.search.specs.Searches.{count_below, sum_below}
 use Rattle.registers.specs.declared.fault.RegisterFault.{RegisterFault}
 use Rattle.registers.specs.declared.fault.RegisterFault.TheVariants.{NoPerson, NoRole, NoBranch, Posted, NotPosted, Full}
+use Rattle.registers.specs.declared.posting.Posting.{Posting}
 
 -- a set of postings: whether a person is posted to a role at a branch
 abbrev pub Postings : Type 0
@@ -21,9 +22,18 @@ Inside posted branches = (p q b : ℕ) → posted p q b ≡ true → (p < 64) ×
 abbrev pub OwnShares : ℕ → (ℕ → ℕ) → Type 0
 OwnShares branches share = (b : ℕ) → branches ≤ b → share b ≡ 0
 
+-- the register has as many branches as before, and each has the share that it had
+abbrev pub KeepsShares : ℕ → (ℕ → ℕ) → ℕ → (ℕ → ℕ) → Type 0
+KeepsShares branches share branches' share' = (branches' ≡ branches) × ((b : ℕ) → share' b ≡ share b)
+
 -- two postings, (person, role, branch) and (x, y, z), are the same
 abbrev pub same_posting : ℕ → ℕ → ℕ → ℕ → ℕ → ℕ → Bool
 same_posting person role branch x y z = z == branch && (x == person && y == role)
+
+-- a record, of which a free one is None, is this posting
+abbrev pub is_posting : Option Posting → ℕ → ℕ → ℕ → Bool
+is_posting None person role branch = false
+is_posting (Some it) person role branch = same_posting it.person it.role it.branch person role branch
 
 -- the set with one posting more
 abbrev pub added : Postings → ℕ → ℕ → ℕ → Postings

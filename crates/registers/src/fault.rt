@@ -22,30 +22,24 @@ pub enum RegisterFault {
     Unfit(usize),
 }
 
-impl RegisterFault {
-    // The three numbers that are told of the fault.
-    pub fn refusal(self) -> Refusal
-        ensures { result ≡ register_refusal self }
-    {
-        match self {
-            RegisterFault::NoPerson => told(4, 0),
-            RegisterFault::NoRole => told(4, 1),
-            RegisterFault::NoBranch => told(4, 2),
-            RegisterFault::Posted(branch) => told(19, branch as u16),
-            RegisterFault::NotPosted(branch) => told(20, branch as u16),
-            RegisterFault::Full(branch) => told(21, branch as u16),
-            RegisterFault::Unfit(items) => told(22, place(items)),
-        }
-    }
-}
+impl From<RegisterFault> for Refusal {
+    ghost from_gives = { λ fault r. r ≡ register_refusal fault };
 
-// A refusal of the register's layer.
-fn told(number: u8, place: u16) -> Refusal
-    ensures { (result.number ≡ number) × (result.layer ≡ 4) × (result.place ≡ place) }
-{
-    Refusal {
-        number,
-        layer: 4,
-        place,
+    // The three numbers that are told of the fault, all at the register's layer.
+    fn from(fault: RegisterFault) -> Refusal {
+        let (number, place) = match fault {
+            RegisterFault::NoPerson => (4, 0),
+            RegisterFault::NoRole => (4, 1),
+            RegisterFault::NoBranch => (4, 2),
+            RegisterFault::Posted(branch) => (19, branch as u16),
+            RegisterFault::NotPosted(branch) => (20, branch as u16),
+            RegisterFault::Full(branch) => (21, branch as u16),
+            RegisterFault::Unfit(items) => (22, place(items)),
+        };
+        Refusal {
+            number,
+            layer: 4,
+            place,
+        }
     }
 }

@@ -3,10 +3,10 @@
 
 mod bits;
 mod fault;
-mod numbers;
+mod posting;
 mod register;
 
 pub use bits::{with_bit, without_bit};
 pub use fault::RegisterFault;
-pub use numbers::check_numbers;
+pub use posting::Posting;
 pub use register::Register;

@@ -1,11 +1,12 @@
 // What a register is, whatever keeps it.
 ghost use Rattle.std.specs.Prelude.{◌≡◌, ℕ, Bool, false, MatchResult};
 ghost use Rattle.orders.specs.Masks.{has_bit};
-ghost use Rattle.registers.specs.Meaning.{Inside, OwnShares, added, others_at, put_checked, removed, share_told, take_checked};
+ghost use Rattle.registers.specs.Meaning.{Inside, KeepsShares, OwnShares, added, others_at, put_checked, removed, share_told, take_checked};
 
 use crate::fault::RegisterFault;
+use crate::posting::Posting;
 
-// A set of postings (a person, a role, a branch) and, for each of its branches, a share: how many postings the branch may
+// A set of postings and, for each of its branches, a share: how many postings the branch may
 // have. A question leaves the register as it was, and so does a put or a take that is refused.
 pub trait Register {
     // whether a person is posted to a role at a branch
@@ -17,11 +18,9 @@ pub trait Register {
     // how many postings a branch may have
     ghost share: { Self → ℕ → ℕ };
 
-    // Tells how many branches it has. Nobody is posted, and there is no share, at another branch.
+    // Tells how many branches it has.
     fn branch_count(&self) -> u8
-        ensures count { result ≡ branches self.now }
-        ensures inside { Inside (posted self.now) (branches self.now) }
-        ensures shares { OwnShares (branches self.now) (share self.now) };
+        ensures { result ≡ branches self.now };
 
     // Tells a branch's share; a branch that is not its own has none.
     fn share_of(&self, branch: u8) -> Option<u16>
@@ -31,24 +30,30 @@ pub trait Register {
     fn roles_of(&self, person: u8, branch: u8) -> u16
         ensures { (q : ℕ) → has_bit result q ≡ posted self.now person q branch };
 
-    // Tells how many persons other than this one are posted to a role at a branch.
-    fn others(&self, person: u8, role: u8, branch: u8) -> u8
-        ensures { result ≡ others_at (posted self.now) person role branch };
+    // Tells how many persons other than this one are posted to the role at the branch.
+    fn others(&self, posting: Posting) -> u8
+        ensures { result ≡ others_at (posted self.now) posting.person posting.role posting.branch };
 
     // Adds a posting.
-    fn put(&mut self, person: u8, role: u8, branch: u8) -> Result<(), RegisterFault>
-        ensures answer { result ≡ put_checked (posted self.old) (branches self.old) (share self.old) person role branch }
-        ensures leaves { MatchResult result (λ _. (x y z : ℕ) → posted self.new x y z ≡ added (posted self.old) person role branch x y z) (λ _. self.new ≡ self.old) }
-        ensures keeps { (branches self.new ≡ branches self.old) × ((b : ℕ) → share self.new b ≡ share self.old b) };
+    fn put(&mut self, posting: Posting) -> Result<(), RegisterFault>
+        ensures answer { result ≡ put_checked (posted self.old) (branches self.old) (share self.old) posting.person posting.role posting.branch }
+        ensures leaves { MatchResult result (λ _. (x y z : ℕ) → posted self.new x y z ≡ added (posted self.old) posting.person posting.role posting.branch x y z) (λ _. self.new ≡ self.old) }
+        ensures keeps { KeepsShares (branches self.old) (share self.old) (branches self.new) (share self.new) };
 
     // Removes a posting.
-    fn take(&mut self, person: u8, role: u8, branch: u8) -> Result<(), RegisterFault>
-        ensures answer { result ≡ take_checked (posted self.old) (branches self.old) person role branch }
-        ensures leaves { MatchResult result (λ _. (x y z : ℕ) → posted self.new x y z ≡ removed (posted self.old) person role branch x y z) (λ _. self.new ≡ self.old) }
-        ensures keeps { (branches self.new ≡ branches self.old) × ((b : ℕ) → share self.new b ≡ share self.old b) };
+    fn take(&mut self, posting: Posting) -> Result<(), RegisterFault>
+        ensures answer { result ≡ take_checked (posted self.old) (branches self.old) posting.person posting.role posting.branch }
+        ensures leaves { MatchResult result (λ _. (x y z : ℕ) → posted self.new x y z ≡ removed (posted self.old) posting.person posting.role posting.branch x y z) (λ _. self.new ≡ self.old) }
+        ensures keeps { KeepsShares (branches self.old) (share self.old) (branches self.new) (share self.new) };
 
     // Removes all postings.
     fn clear(&mut self)
         ensures leaves { (x y z : ℕ) → posted self.new x y z ≡ false }
-        ensures keeps { (branches self.new ≡ branches self.old) × ((b : ℕ) → share self.new b ≡ share self.old b) };
+        ensures keeps { KeepsShares (branches self.old) (share self.old) (branches self.new) (share self.new) };
+
+    // nobody is posted who is no person, to no role, or at a branch that is not the register's own
+    ghost inside: { (r : Self) → Inside (posted r) (branches r) };
+
+    // a branch that is not the register's own has no share
+    ghost shares: { (r : Self) → OwnShares (branches r) (share r) };
 }

@@ -1,17 +1,19 @@
 -- What a roll says: where its parts are, that they are apart, and of a part that is changed.
-use Rattle.std.proofs.Common.{◌≡◌, ℕ, zero, suc, ◌+◌, ◌-◌, ◌<◌, ◌≤◌, min, true, false, not, ◌&&◌, ◌||◌, eqb, ltb, ◌⊎◌, List, [], ◌∷◌, map, length, get_or, take, drop, set, replicate, Some, None, Ok, Err, sym, refl, ap, ◌∙◌, subst, inl, inr, arith}
+use Rattle.std.proofs.Common.{◌≡◌, ℕ, zero, suc, ◌+◌, ◌-◌, ◌<◌, ◌≤◌, min, Bool, true, false, not, ◌&&◌, ◌||◌, eqb, ltb, ◌⊎◌, List, [], ◌∷◌, map, length, get_or, take, drop, set, replicate, Some, None, Option, Ok, Err, sym, refl, ap, ◌∙◌, subst, inl, inr, arith}
 use borrow.Rule.Slice.PartMut.{put_mid}
-use Rattle.refusals.proofs.Rows.{must_true}
+use Rattle.refusals.proofs.Rows.{all_of, all_range, all_same, must_true}
+use Rattle.refusals.specs.Checks.{all}
 use Rattle.registers.proofs.PostingFacts.{postings_same, put_full, put_passes, take_passes}
 use Rattle.registers.specs.Meaning.{Inside, added, postings_at, put_checked, removed, same_posting, take_checked}
 use Rattle.registers.specs.declared.fault.RegisterFault.TheVariants.{Full, Unfit}
 use Rattle.parts.proofs.PartFacts.{held_among, held_free, held_freed, held_written, none_spare, some_spare}
-use Rattle.parts.specs.Part.{among, free, held, spare, without}
+use Rattle.parts.specs.Part.{among, held, spare, without}
 use Rattle.roll.specs.Roll.{roll_checked, roll_part, roll_posted, roll_share, roll_start, shares_before, shares_fit}
-use Rattle.parts.specs.declared.posting.Posting.{Posting}
+use Rattle.registers.specs.declared.posting.Posting.{Posting}
 use Rattle.search.proofs.Searches.{first_found, first_missed}
 use Rattle.search.proofs.Sums.{sum_grows, sum_more}
 use Rattle.search.specs.Searches.{first_below}
+use Rattle.std.specs.List.{list_all}
 use Rattle.std.proofs.lemmas.List.{drop-set-add, drop-set-lt, drop-take, get_or-drop, get_or_past, get_or-replicate, get_or-take, length-append, length-drop, length-map, length-replicate, length-set, length-take, take-set-le}
 use Rattle.std.proofs.lemmas.Slice.{between-put_mid, drop-put_mid, take-put_mid_below}
 use Rattle.std.proofs.lemmas.Bool.{and_left, and_parts, and_right, cases_eq, cases_lt, cases_order, cond-false, cond-true, leb-true, le-ltb, lt-ltb, ltb-true, ne_eqb}
@@ -58,7 +60,7 @@ module _ (items : ℕ) (shares : List ℕ) (branches : ℕ) where
       let e : roll_share items shares branches b ≡ min (get_or shares b 0) (items - roll_start items shares b) = cond-true (ltb b branches) _ 0 (lt-ltb b branches own) in
       omega (arith, e)
 
-module _ (records : List Posting) (shares : List ℕ) (branches : ℕ) where
+module _ (records : List (Option Posting)) (shares : List ℕ) (branches : ℕ) where
   pub part_length : (b : ℕ) → length (roll_part records shares branches b) ≡ roll_share (length records) shares branches b
   part_length b =
       let s = roll_start (length records) shares b in
@@ -85,13 +87,13 @@ module _ (records : List Posting) (shares : List ℕ) (branches : ℕ) where
       (ltb-true x 64 p.0, ltb-true y 16 q.0, ltb-true b branches a.0)
 
   -- nobody is posted where every record is free
-  pub roll_free : ((k : ℕ) → get_or records k free ≡ free) → (x y z : ℕ) → roll_posted records shares branches x y z ≡ false
+  pub roll_free : ((k : ℕ) → get_or records k None ≡ None) → (x y z : ℕ) → roll_posted records shares branches x y z ≡ false
   roll_free none x y z =
       let n = roll_share (length records) shares branches z in
       let s = roll_start (length records) shares z in
       and_right (ltb z branches) _
       (held_free (roll_part records shares branches z) _ x y z
-      (λ k h. get_or-take n (drop s records) k free (omega (arith, part_length z)) ∙ get_or-drop s records k free ∙ none (s + k)))
+      (λ k h. get_or-take n (drop s records) k None (omega (arith, part_length z)) ∙ get_or-drop s records k None ∙ none (s + k)))
 
   -- what is put is refused as full exactly where no record is spare
   pub roll_full : (x y b : ℕ) → x < 64 → y < 16 → b < branches → among (roll_part records shares branches b) (length (roll_part records shares branches b)) x y b ≡ false → first_below (length (roll_part records shares branches b)) (spare (roll_part records shares branches b) b) ≡ None → put_checked (roll_posted records shares branches) branches (roll_share (length records) shares branches) x y b ≡ Err (Full b)
@@ -111,7 +113,7 @@ module _ (records : List Posting) (shares : List ℕ) (branches : ℕ) where
       take_passes (roll_posted records shares branches) branches (roll_share (length records) shares branches) x y b h k own (roll_among x y b h k own ∙ there)
 
   -- records of which only one branch's part has changed
-  module _ (after : List Posting) (b : ℕ) (own : b < branches) (others : (z : ℕ) → (z ≡ b → ⊥) → roll_part after shares branches z ≡ roll_part records shares branches z) where
+  module _ (after : List (Option Posting)) (b : ℕ) (own : b < branches) (others : (z : ℕ) → (z ≡ b → ⊥) → roll_part after shares branches z ≡ roll_part records shares branches z) where
     elsewhere : (x y z : ℕ) → (z ≡ b → ⊥) → roll_posted after shares branches x y z ≡ roll_posted records shares branches x y z
     elsewhere x y z ne = ap (λ part. ltb z branches && held part (length part) x y z) (others z ne)
 
@@ -143,7 +145,7 @@ take_set_in (suc n) (x ∷ xs) zero v = refl
 take_set_in (suc n) (x ∷ xs) (suc i) v = ap (λ ys. x ∷ ys) (take_set_in n xs i v)
 
 -- one record written
-module _ (records : List Posting) (shares : List ℕ) (branches b i : ℕ) (v : Posting) (inside : i < length (roll_part records shares branches b)) where
+module _ (records : List (Option Posting)) (shares : List ℕ) (branches b i : ℕ) (v : Option Posting) (inside : i < length (roll_part records shares branches b)) where
   as_long : (z : ℕ) → roll_part (set records (roll_start (length records) shares b + i) v) shares branches z ≡ take (roll_share (length records) shares branches z) (drop (roll_start (length records) shares z) (set records (roll_start (length records) shares b + i) v))
   as_long z = ap (λ n. take (roll_share n shares branches z) (drop (roll_start n shares z) (set records (roll_start (length records) shares b + i) v))) (length-set records (roll_start (length records) shares b + i) v)
 
@@ -171,16 +173,16 @@ module _ (records : List Posting) (shares : List ℕ) (branches b i : ℕ) (v : 
           (drop-set-lt (roll_start (length records) shares z) records (roll_start (length records) shares b + i) v (omega (arith, part_length records shares branches b)))
 
 -- a posting written over a spare record of its branch's part
-module _ (records : List Posting) (shares : List ℕ) (branches person role b i at : ℕ) (own-person : person < 64) (own-role : role < 16) (own-branch : b < branches) (found : first_below (length (roll_part records shares branches b)) (spare (roll_part records shares branches b) b) ≡ Some i) (place : at ≡ roll_start (length records) shares b + i) where
+module _ (records : List (Option Posting)) (shares : List ℕ) (branches person role b i at : ℕ) (own-person : person < 64) (own-role : role < 16) (own-branch : b < branches) (found : first_below (length (roll_part records shares branches b)) (spare (roll_part records shares branches b) b) ≡ Some i) (place : at ≡ roll_start (length records) shares b + i) where
   pub place_inside : at < length records
   place_inside =
       omega (arith, (first_found _ (length (roll_part records shares branches b)) i found).0, part_length records shares branches b, share_within (length records) shares branches b)
 
-  pub roll_added : (x y z : ℕ) → roll_posted (set records at (record { used = true; person = person; role = role; branch = b })) shares branches x y z ≡ added (roll_posted records shares branches) person role b x y z
+  pub roll_added : (x y z : ℕ) → roll_posted (set records at (Some (record { person = person; role = role; branch = b }))) shares branches x y z ≡ added (roll_posted records shares branches) person role b x y z
   roll_added =
       let part = roll_part records shares branches b in
       let f = first_found (spare part b) (length part) i found in
-      let new : Posting = record { used = true; person = person; role = role; branch = b } in
+      let new : Option Posting = Some (record { person = person; role = role; branch = b }) in
       subst (λ k. (x y z : ℕ) → roll_posted (set records k new) shares branches x y z ≡ added (roll_posted records shares branches) person role b x y z) (sym place)
       (changed_added records shares branches (set records (roll_start (length records) shares b + i) new) b own-branch
       (set_others records shares branches b i new f.0) person role
@@ -190,7 +192,7 @@ module _ (records : List Posting) (shares : List ℕ) (branches person role b i 
       ∙ held_written part b i person role f.0 own-person own-role f.1 x y))
 
 -- a part written whole
-module _ (records : List Posting) (shares : List ℕ) (branches b s k : ℕ) (ys : List Posting) (starts : s ≡ roll_start (length records) shares b) (lasts : k ≡ roll_share (length records) shares branches b) (long : length ys ≡ k) where
+module _ (records : List (Option Posting)) (shares : List ℕ) (branches b s k : ℕ) (ys : List (Option Posting)) (starts : s ≡ roll_start (length records) shares b) (lasts : k ≡ roll_share (length records) shares branches b) (long : length ys ≡ k) where
   inside : s + k ≤ length records
   inside = omega (arith, share_within (length records) shares branches b)
 
@@ -224,7 +226,7 @@ module _ (records : List Posting) (shares : List ℕ) (branches b s k : ℕ) (ys
           (drop-put_mid s k records ys (roll_start (length records) shares z) (omega (arith, parts_apart (length records) shares branches b z after)) (omega (arith, inside)) long)
 
 -- a posting freed wherever it stands in its branch's part
-module _ (records : List Posting) (shares : List ℕ) (branches person role b s k : ℕ) (ys : List Posting) (own-branch : b < branches) (starts : s ≡ roll_start (length records) shares b) (lasts : k ≡ roll_share (length records) shares branches b) (freed : ys ≡ map (without person role b) (take k (drop s records))) where
+module _ (records : List (Option Posting)) (shares : List ℕ) (branches person role b s k : ℕ) (ys : List (Option Posting)) (own-branch : b < branches) (starts : s ≡ roll_start (length records) shares b) (lasts : k ≡ roll_share (length records) shares branches b) (freed : ys ≡ map (without person role b) (take k (drop s records))) where
   from_part : ys ≡ map (without person role b) (roll_part records shares branches b)
   from_part = freed ∙ ap (λ n. map (without person role b) (take n (drop s records))) lasts ∙ ap (λ n. map (without person role b) (take (roll_share (length records) shares branches b) (drop n records))) starts
 
@@ -240,11 +242,25 @@ module _ (records : List Posting) (shares : List ℕ) (branches person role b s 
       ∙ ap (λ n. held (map (without person role b) part) n x y b) (length-map part (without person role b))
       ∙ held_freed person role b part x y b)
 
--- records that are all free
-pub all_free : (records : List Posting) (n : ℕ) → records ≡ replicate n free → (k : ℕ) → get_or records k free ≡ free
-all_free records n cleared k =
-    ap (λ (rs : List Posting). get_or rs k free) cleared
-    ∙ elim (cases_lt k n) as (λ _. get_or (replicate n free) k free ≡ free) [
-      | inl h ↦ get_or-replicate n k free free h
-      | inr past ↦ get_or_past (replicate n free) k free (omega (arith, length-replicate n free))
-    ]
+-- nobody is posted by records that are all free
+pub roll_cleared : (records : List (Option Posting)) (shares : List ℕ) (branches n : ℕ) → records ≡ replicate n None → (x y z : ℕ) → roll_posted records shares branches x y z ≡ false
+roll_cleared records shares branches n cleared =
+    roll_free records shares branches
+    (λ k.
+    ap (λ (rs : List (Option Posting)). get_or rs k None) cleared
+    ∙ elim (cases_lt k n) as (λ _. get_or {A = Option Posting} (replicate n None) k None ≡ None) [
+      | inl h ↦ get_or-replicate n k None None h
+      | inr past ↦ get_or_past (replicate n None) k None (omega (arith, length-replicate {A = Option Posting} n None))
+    ])
+
+-- a test of the first shares, of which those that are not there are 0
+all_first : (test : ℕ → Bool) (n : ℕ) → all (suc n) test ≡ (test 0 && all n (λ k. test (suc k)))
+all_first test n =
+    all_same test (λ k. test (0 + k)) (suc n) (λ k h. ap test (omega arith))
+    ∙ sym (all_range test 0 (suc n))
+    ∙ ap (λ b. test 0 && b) (all_range test 1 n ∙ all_same _ (λ k. test (suc k)) n (λ k h. ap test (omega arith)))
+
+pub all_taken : (test : ℕ → Bool) → test 0 ≡ true → (xs : List ℕ) (n : ℕ) → list_all test (take n xs) ≡ all n (λ k. test (get_or xs k 0))
+all_taken test none xs zero = refl
+all_taken test none [] (suc n) = sym (all_of _ (suc n) (λ k h. none))
+all_taken test none (x ∷ xs) (suc n) = ap (λ b. test x && b) (all_taken test none xs n) ∙ sym (all_first (λ k. test (get_or (x ∷ xs) k 0)) n)

@@ -1,11 +1,11 @@
 -- What a roll means: each branch has a part of the records, as long as its share, after the parts of the branches before it.
-use Rattle.std.specs.Prelude.{ℕ, ◌-◌, min, Bool, cond, ◌&&◌, leb, List, length, take, drop, Result, ◌==◌, nat_le, nat_lt, slice_index}
+use Rattle.std.specs.Prelude.{ℕ, ◌-◌, min, Bool, cond, ◌&&◌, leb, List, length, take, drop, Option, Result, ◌==◌, nat_le, nat_lt, slice_index}
 use Rattle.refusals.specs.Checks.{all, must}
 use Rattle.registers.specs.Meaning.{Postings}
 use Rattle.registers.specs.declared.fault.RegisterFault.{RegisterFault}
 use Rattle.registers.specs.declared.fault.RegisterFault.TheVariants.{Unfit}
+use Rattle.registers.specs.declared.posting.Posting.{Posting}
 use Rattle.parts.specs.Part.{held}
-use Rattle.parts.specs.declared.posting.Posting.{Posting}
 use Rattle.search.specs.Searches.{sum_below}
 
 -- the shares of the branches before one, together
@@ -21,11 +21,11 @@ abbrev pub roll_share : ℕ → List ℕ → ℕ → ℕ → ℕ
 roll_share items shares branches branch = cond (nat_lt branch branches) (min (slice_index shares branch) (items - roll_start items shares branch)) 0
 
 -- the part of a branch
-abbrev pub roll_part : List Posting → List ℕ → ℕ → ℕ → List Posting
+abbrev pub roll_part : List (Option Posting) → List ℕ → ℕ → ℕ → List (Option Posting)
 roll_part records shares branches branch = take (roll_share (length records) shares branches branch) (drop (roll_start (length records) shares branch) records)
 
 -- who is posted: whom the branch's own part says
-abbrev pub roll_posted : List Posting → List ℕ → ℕ → Postings
+abbrev pub roll_posted : List (Option Posting) → List ℕ → ℕ → Postings
 roll_posted records shares branches person role branch =
     nat_lt branch branches && held (roll_part records shares branches branch) (length (roll_part records shares branches branch)) person role branch
 

@@ -1,13 +1,13 @@
 // A roll of records in lent memory.
-ghost use Rattle.std.specs.Prelude.{◌≡◌, ℕ, ◌<◌, false, length, replicate, Ok, nat_le, slice_index};
+ghost use Rattle.std.specs.Prelude.{◌≡◌, ℕ, ◌<◌, false, length, replicate, None, Ok, nat_le, slice_index};
 ghost use Rattle.refusals.specs.Checks.{all};
-ghost use Rattle.parts.specs.Part.{free};
+ghost use Rattle.std.proofs.Common.{rules, tests};
 ghost use Rattle.roll.specs.Roll.{roll_checked, roll_part, roll_posted, roll_share, roll_start, shares_before};
 
 use fields::PERSONS;
-use parts::{FREE, Posting, holds, others_in, remove_from, roles_in, spare_in};
+use parts::{holds, others_in, remove_from, roles_in, spare_in};
 use refusals::must;
-use registers::{Register, RegisterFault, check_numbers};
+use registers::{Posting, Register, RegisterFault};
 
 // The most postings that a branch may have.
 const MOST: u16 = 1024;
@@ -15,7 +15,7 @@ const MOST: u16 = 1024;
 // The records of all branches, and the share of each.
 #[derive(Drop)]
 pub struct Roll<'p, 's> {
-    records: &'p mut [Posting],
+    records: &'p mut [Option<Posting>],
     shares: &'s [u16],
     branches: u8,
 }
@@ -24,46 +24,37 @@ pub struct Roll<'p, 's> {
 fn share_at(shares: &[u16], branch: u8) -> u16
     ensures { result ≡ slice_index shares.now branch }
 {
-    if (branch as usize) < shares.len() {
-        shares[branch as usize]
-    } else {
-        0
-    }
+    shares.get(branch as usize).copied().unwrap_or(0)
 }
 
 // The shares of the branches before one, together.
 fn shares_before(shares: &[u16], branch: u8) -> usize
     ensures { result ≡ shares_before shares.now branch }
 {
-    let mut sum: usize = 0;
-    for b in 0..branch {
-        sum += share_at(shares, b) as usize;
-    }
-    sum
+    shares
+        .iter()
+        .take(branch as usize)
+        .map(|share| *share as usize)
+        .sum()
 }
 
 // Tells whether no branch's share is over the most.
 fn none_over(shares: &[u16], branches: u8) -> bool
     ensures { result ≡ all branches (λ b. nat_le (slice_index shares.now b) 1024) }
 {
-    for b in 0..branches {
-        if share_at(shares, b) > MOST {
-            return false;
-        }
-    }
-    true
-}
-
-// Frees every record.
-fn empty(records: &mut [Posting])
-    ensures { records.new ≡ replicate (length records.old) free }
-{
-    records.fill(FREE);
+    shares
+        .iter()
+        .take(branches as usize)
+        .all(|share| *share <= MOST)
 }
 
 impl<'p, 's> Roll<'p, 's> {
     // Checks the shares, and that the records are enough for them.
-    pub fn check(records: &[Posting], shares: &[u16], branches: u8) -> Result<(), RegisterFault>
+    pub fn check(
+        records: &[Option<Posting>],
+        shares: &[u16],
+        branches: u8,
+    ) -> Result<(), RegisterFault>
         ensures { result ≡ roll_checked (length records.now) shares.now branches }
     {
         must(
@@ -76,13 +67,14 @@ impl<'p, 's> Roll<'p, 's> {
     }
 
     // Makes a roll in which nobody is posted; a part for which there are too few records is shorter.
-    pub fn new(records: &'p mut [Posting], shares: &'s [u16], branches: u8) -> Roll<'p, 's>
-        ensures records { result.records.now ≡ replicate (length records.old) free }
+    #[tactic(auto, using(crate::proofs::RollFacts::roll_cleared, crate::proofs::RollFacts::share_whole))]
+    pub fn new(records: &'p mut [Option<Posting>], shares: &'s [u16], branches: u8) -> Roll<'p, 's>
+        ensures records { result.records.now ≡ replicate (length records.old) None }
         ensures asked { (result.shares.now ≡ shares.now) × (result.branches ≡ branches) }
         ensures empty { (x y z : ℕ) → roll_posted result.records.now result.shares.now result.branches x y z ≡ false }
         ensures whole { roll_checked (length records.old) shares.now branches ≡ Ok tt → (b : ℕ) → b < branches → roll_share (length result.records.now) result.shares.now result.branches b ≡ slice_index shares.now b }
     {
-        empty(records);
+        records.fill(None);
         Roll {
             records,
             shares,
@@ -109,7 +101,7 @@ impl<'p, 's> Roll<'p, 's> {
     }
 
     // The part of a branch.
-    fn part(&self, branch: u8) -> &[Posting]
+    fn part(&self, branch: u8) -> &[Option<Posting>]
         ensures { result.now ≡ roll_part self.now.records.now self.now.shares.now self.now.branches branch }
     {
         let start = self.start(branch);
@@ -130,11 +122,7 @@ impl<'p, 's> Register for Roll<'p, 's> {
     }
 
     fn share_of(&self, branch: u8) -> Option<u16> {
-        if branch < self.branches {
-            Some(self.room(branch))
-        } else {
-            None
-        }
+        (branch < self.branches).then_some(self.room(branch))
     }
 
     fn roles_of(&self, person: u8, branch: u8) -> u16 {
@@ -145,45 +133,45 @@ impl<'p, 's> Register for Roll<'p, 's> {
         }
     }
 
-    fn others(&self, person: u8, role: u8, branch: u8) -> u8 {
-        if check_numbers(self.branches, person, role, branch).is_err() {
+    fn others(&self, posting: Posting) -> u8 {
+        if posting.check(self.branches).is_err() {
             return 0;
         }
-        others_in(self.part(branch), person, role, branch)
+        others_in(self.part(posting.branch), posting)
     }
 
-    fn put(&mut self, person: u8, role: u8, branch: u8) -> Result<(), RegisterFault> {
-        check_numbers(self.branches, person, role, branch)?;
+    fn put(&mut self, posting: Posting) -> Result<(), RegisterFault> {
+        posting.check(self.branches)?;
         must(
-            !holds(self.part(branch), person, role, branch),
-            RegisterFault::Posted(branch),
+            !holds(self.part(posting.branch), posting),
+            RegisterFault::Posted(posting.branch),
         )?;
-        let Some(i) = spare_in(self.part(branch), branch) else {
-            return Err(RegisterFault::Full(branch));
+        let Some(i) = spare_in(self.part(posting.branch), posting.branch) else {
+            return Err(RegisterFault::Full(posting.branch));
         };
-        let start = self.start(branch);
-        self.records[start + i] = Posting {
-            used: true,
-            person,
-            role,
-            branch,
-        };
+        let start = self.start(posting.branch);
+        self.records[start + i] = Some(posting);
         Ok(())
     }
 
-    fn take(&mut self, person: u8, role: u8, branch: u8) -> Result<(), RegisterFault> {
-        check_numbers(self.branches, person, role, branch)?;
+    fn take(&mut self, posting: Posting) -> Result<(), RegisterFault> {
+        posting.check(self.branches)?;
         must(
-            holds(self.part(branch), person, role, branch),
-            RegisterFault::NotPosted(branch),
+            holds(self.part(posting.branch), posting),
+            RegisterFault::NotPosted(posting.branch),
         )?;
-        let start = self.start(branch);
-        let end = start + self.room(branch) as usize;
-        remove_from(&mut self.records[start..end], person, role, branch);
+        let start = self.start(posting.branch);
+        let end = start + self.room(posting.branch) as usize;
+        remove_from(&mut self.records[start..end], posting);
         Ok(())
     }
 
+    #[tactic(auto, using(crate::proofs::RollFacts::roll_cleared))]
     fn clear(&mut self) {
-        empty(self.records);
+        self.records.fill(None);
     }
+
+    ghost inside = { Prim.search (rules, tests) };
+
+    ghost shares = { Prim.search (rules, tests) };
 }

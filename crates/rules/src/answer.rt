@@ -3,6 +3,7 @@ ghost use Rattle.std.specs.Prelude.{◌≡◌};
 ghost use Rattle.rules.specs.Answers.{numbers_of, told_of};
 
 use crate::fault::EngineFault;
+use refusals::Refusal;
 
 // What an accepted call tells. A candidate is told by its place in the sitting, from 0.
 #[derive(Clone, Copy)]
@@ -47,7 +48,7 @@ pub fn told(answer: Answer) -> [u16; 3]
             [0, first, second]
         }
         Err(fault) => {
-            let refusal = fault.refusal();
+            let refusal = Refusal::from(fault);
             [refusal.number as u16, refusal.layer as u16, refusal.place]
         }
     }

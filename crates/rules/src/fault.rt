@@ -46,37 +46,31 @@ impl From<RegisterFault> for EngineFault {
     }
 }
 
-impl EngineFault {
-    // The three numbers that are told of the fault; those of the register's keep its layer.
-    pub fn refusal(self) -> Refusal
-        ensures { result ≡ engine_refusal self }
-    {
-        match self {
-            EngineFault::NoSuchNumber(offset) => told(4, offset as u16),
-            EngineFault::NoCandidate(place) => told(8, place),
-            EngineFault::NotGoverned(role) => told(9, role as u16),
-            EngineFault::CannotStand(role) => told(10, role as u16),
-            EngineFault::Closed(branch) => told(11, branch as u16),
-            EngineFault::Stranger(person) => told(12, person as u16),
-            EngineFault::Unmet(line) => told(13, line as u16),
-            EngineFault::TooManyOf(set) => told(14, set as u16),
-            EngineFault::LimitReached(role) => told(15, role as u16),
-            EngineFault::NoPermit(kind) => told(16, kind as u16),
-            EngineFault::NotCounting(place) => told(17, place as u16),
-            EngineFault::AlreadySo(place) => told(18, place as u16),
-            EngineFault::NothingFound(branch) => told(20, branch as u16),
-            EngineFault::Register(fault) => fault.refusal(),
-        }
-    }
-}
+// The three numbers that are told of the fault; those of the register's keep its layer.
+impl From<EngineFault> for Refusal {
+    ghost from_gives = { λ fault r. r ≡ engine_refusal fault };
 
-// A refusal of the engine's layer.
-fn told(number: u8, place: u16) -> Refusal
-    ensures { (result.number ≡ number) × (result.layer ≡ 3) × (result.place ≡ place) }
-{
-    Refusal {
-        number,
-        layer: 3,
-        place,
+    fn from(fault: EngineFault) -> Refusal {
+        let (number, place) = match fault {
+            EngineFault::NoSuchNumber(offset) => (4, offset as u16),
+            EngineFault::NoCandidate(place) => (8, place),
+            EngineFault::NotGoverned(role) => (9, role as u16),
+            EngineFault::CannotStand(role) => (10, role as u16),
+            EngineFault::Closed(branch) => (11, branch as u16),
+            EngineFault::Stranger(person) => (12, person as u16),
+            EngineFault::Unmet(line) => (13, line as u16),
+            EngineFault::TooManyOf(set) => (14, set as u16),
+            EngineFault::LimitReached(role) => (15, role as u16),
+            EngineFault::NoPermit(kind) => (16, kind as u16),
+            EngineFault::NotCounting(place) => (17, place as u16),
+            EngineFault::AlreadySo(place) => (18, place as u16),
+            EngineFault::NothingFound(branch) => (20, branch as u16),
+            EngineFault::Register(fault) => return Refusal::from(fault),
+        };
+        Refusal {
+            number,
+            layer: 3,
+            place,
+        }
     }
 }

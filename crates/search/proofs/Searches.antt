@@ -1,6 +1,8 @@
 -- What searches say: as a loop goes through the numbers, and of what they found.
-use Rattle.std.proofs.Common.{◌≡◌, ℕ, zero, suc, ◌+◌, ◌<◌, ◌≤◌, Bool, true, false, cond, ◌||◌, is_some, Some, None, Option, sym, refl, ap, ◌∙◌, subst, inl, inr, add-one, arith}
-use Rattle.std.proofs.lemmas.Bool.{cases_lt, or_cases, or_from, or_left, or_right, true≢false}
+use Rattle.std.proofs.Common.{◌≡◌, ℕ, zero, suc, ◌+◌, ◌<◌, ◌≤◌, Bool, true, false, cond, ◌||◌, is_some, List, length, get_or, Some, None, Option, sym, refl, ap, ◌∙◌, subst, inl, inr, add-one, arith}
+use Rattle.std.specs.List.{position, position_or_len}
+use Rattle.std.proofs.lemmas.Bool.{cases_lt, cond-false, cond-true, le-ltb, lt-ltb, or_cases, or_from, or_left, or_right, true≢false}
+use Rattle.std.proofs.lemmas.List.Sums.{fails_before_first, passes_at_first}
 use Rattle.search.specs.Searches.{or_next, first_below, any_below}
 
 -- one turn of a loop that looks for the first
@@ -29,6 +31,24 @@ first_stops fits (suc n) k h before here =
       | inr g ↦
           let e : k ≡ n = omega arith in
           subst (λ m. first_below (suc m) fits ≡ Some k) e (ap (λ o. or_next o (fits k) k) before ∙ ap (λ b. cond b (Some k) None) here)
+    ]
+
+-- where nothing fits, nothing is found
+pub first_none : (fits : ℕ → Bool) (n : ℕ) → ((k : ℕ) → k < n → fits k ≡ false) → first_below n fits ≡ None
+first_none fits zero none = refl
+first_none fits (suc n) none =
+    ap (λ o. or_next o (fits n) n) (first_none fits n (λ k h. none k (omega arith))) ∙ ap (λ b. cond b (Some n) None) (none n (omega arith))
+
+-- the place that a search through a list tells is the lowest that fits
+pub first_position : {X : Type 0} (test : X → Bool) (xs : List X) (d : X) → position test xs ≡ first_below (length xs) (λ k. test (get_or xs k d))
+first_position test xs d =
+    elim (cases_lt (position_or_len test xs) (length xs)) [
+      | inl l ↦
+          cond-true _ (Some (position_or_len test xs)) None (lt-ltb _ _ l)
+          ∙ sym (first_stops _ (length xs) (position_or_len test xs) l (first_none _ _ (λ k h. fails_before_first test xs k d h)) (passes_at_first test xs d l))
+      | inr g ↦
+          cond-false _ (Some (position_or_len test xs)) None (le-ltb _ _ g)
+          ∙ sym (first_none _ (length xs) (λ k h. fails_before_first test xs k d (omega arith)))
     ]
 
 -- two tests that agree find the same

@@ -1,7 +1,9 @@
 -- What sums over the numbers below a bound say: as a loop goes through them, and of their bounds.
-use Rattle.std.proofs.Common.{◌≡◌, ℕ, zero, suc, ◌+◌, ◌*◌, ◌<◌, ◌≤◌, sym, refl, subst, inl, inr, suc-mul, add-one, arith}
+use Rattle.std.proofs.Common.{◌≡◌, ℕ, zero, suc, ◌+◌, ◌*◌, ◌<◌, ◌≤◌, Bool, true, false, cond, List, [], ◌∷◌, length, get_or, take, sym, refl, ap, ◌∙◌, subst, inl, inr, suc-mul, add-one, arith}
+use Rattle.std.specs.List.{enumerate_from, filter, sum_by}
 use Rattle.std.proofs.lemmas.Bool.{cases_lt}
-use Rattle.search.specs.Searches.{sum_below}
+use Rattle.std.proofs.lemmas.List.Sums.{sum_by-cons}
+use Rattle.search.specs.Searches.{count_below, sum_below}
 
 -- the sum of no number, and one turn of a loop
 pub sum_none : (amount : ℕ → ℕ) → sum_below 0 amount ≡ 0
@@ -59,3 +61,33 @@ sum_raised amount now' (suc n) k by h others here =
           let last : now' n ≡ amount n + by = subst (λ m. now' m ≡ amount m + by) same here in
           omega (arith, sum_same now' amount n (λ j i. others j (omega arith) (λ e. omega arith)))
     ]
+
+-- the first amount, and the others
+pub sum_first : (amount : ℕ → ℕ) (n : ℕ) → sum_below (suc n) amount ≡ amount 0 + sum_below n (λ k. amount (suc k))
+unfolding sum_below
+sum_first amount zero = omega arith
+sum_first amount (suc n) = omega (arith, sum_first amount n)
+
+-- the first numbers of a list, as many as there are, together
+pub sum_taken : (xs : List ℕ) (n : ℕ) → sum_by (λ x. x) (take n xs) ≡ sum_below n (λ k. get_or xs k 0)
+sum_taken xs zero = sym (sum_none _)
+sum_taken [] (suc n) = omega (arith, sum_most (λ k. 0) 0 (suc n) (λ k h. omega arith))
+sum_taken (x ∷ xs) (suc n) = sum_by-cons (λ y. y) x (take n xs) ∙ ap (λ m. x + m) (sum_taken xs n) ∙ sym (sum_first (λ k. get_or (x ∷ xs) k 0) n)
+
+-- an element more, where it passes
+length_more : {X : Type 0} (b : Bool) (x : X) (xs : List X) → length (cond b (x ∷ xs) xs) ≡ cond b 1 0 + length xs
+length_more true x xs = omega arith
+length_more false x xs = omega arith
+
+-- the elements of a list that pass a test of their place and themselves, as many as there are such places: from any place on, and from 0
+count_listed : {X : Type 0} (test : ℕ → X → Bool) (d : X) (a : ℕ) (xs : List X) → length (filter (λ p. test p.0 p.1) (enumerate_from a xs)) ≡ count_below (length xs) (λ k. test (a + k) (get_or xs k d))
+count_listed test d a [] = sym (sum_none _)
+count_listed test d a (x ∷ xs) =
+    length_more (test a x) (a, x) _
+    ∙ ap (λ n. cond (test a x) 1 0 + n)
+    (count_listed test d (a + 1) xs ∙ sum_same _ (λ k. cond (test (a + suc k) (get_or xs k d)) 1 0) (length xs) (λ k h. ap (λ n. cond (test n (get_or xs k d)) 1 0) (omega arith)))
+    ∙ ap (λ m. cond (test m x) 1 0 + sum_below (length xs) (λ k. cond (test (a + suc k) (get_or xs k d)) 1 0)) (omega arith)
+    ∙ sym (sum_first (λ k. cond (test (a + k) (get_or (x ∷ xs) k d)) 1 0) (length xs))
+
+pub count_enumerated : {X : Type 0} (test : ℕ → X → Bool) (d : X) (xs : List X) → length (filter (λ p. test p.0 p.1) (enumerate_from 0 xs)) ≡ count_below (length xs) (λ k. test k (get_or xs k d))
+count_enumerated test d xs = count_listed test d 0 xs ∙ sum_same _ _ (length xs) (λ k h. ap (λ n. cond (test n (get_or xs k d)) 1 0) (omega arith))

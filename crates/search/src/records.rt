@@ -16,10 +16,5 @@ pub trait Sought<T> {
 pub fn first<T, S: Sought<T>>(records: &[T], sought: &S) -> Option<usize>
     ensures { (d : T) → result ≡ first_below (length records.now) (λ k. S.Sought.seeks sought.now (slice_index_or records.now k d)) }
 {
-    for i in 0..records.len() {
-        if sought.fits(&records[i]) {
-            return Some(i);
-        }
-    }
-    None
+    records.iter().position(|record| sought.fits(record))
 }

@@ -1,16 +1,8 @@
 -- A loop through the records, left at the first that is refused.
 use Rattle.std.proofs.Common.{◌+◌, ◌*◌, sym, ap, ◌∙◌, arith}
 use Rattle.std.proofs.lemmas.Result.{err_from_is_err_and}
-use Rattle.refusals.proofs.Rows.{every_more, every_stops}
+use Rattle.refusals.proofs.Rows.{every_stops}
 use Rattle.fields.proofs.record.check_list.Goals as goal
-
-pub loop-number-preserved : goal.loop-number-preserved
-loop-number-preserved g c =
-    let bytes = c.args.bytes.now in
-    let scope = c.args.scope in
-    let number = c.loop-number.number in
-    every_more (λ k. g.T.Record.checked bytes scope (c.args.first + g.T.Record.WIDTH * k) k) number c.loop-number.invariant
-    (ap (λ at. g.T.Record.checked bytes scope at number) (sym c.offset.ensures) ∙ sym c.in_ok-check.ensures)
 
 pub returns-in_err-check : goal.returns-in_err-check
 returns-in_err-check g c =

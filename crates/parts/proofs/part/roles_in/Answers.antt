@@ -1,10 +1,9 @@
 -- The mask gains the role of each record that posts the person.
-use Rattle.std.proofs.Common.{◌≡◌, ◌&&◌, ltb, length, sym, ap, ◌∙◌, arith}
+use Rattle.std.proofs.Common.{ltb, sym, ◌∙◌}
 use Rattle.orders.specs.Masks.{has_bit}
 use Rattle.registers.proofs.BitFacts.{no_bit}
 use Rattle.parts.proofs.PartFacts.{among_none, roles_more}
 use Rattle.parts.proofs.part.roles_in.Goals as goal
-use Rattle.parts.specs.Part.{among}
 use Rattle.std.proofs.lemmas.Bool.{and_right}
 
 pub loop-record-init : goal.loop-record-init
@@ -14,8 +13,3 @@ pub loop-record-preserved : goal.loop-record-preserved
 loop-record-preserved c q =
     roles_more c.args.part.now c.loop-record.record-index c.args.person q c.args.branch (has_bit c.loop-record.mask q) _
     (c.loop-record.invariant q) (c.with_role-mask.ensures q)
-
-pub returns : goal.returns
-returns c q =
-    let end : c.loop-record.record-index ≡ length c.args.part.now = omega arith in
-    c.loop-record.invariant q ∙ ap (λ n. ltb q 16 && among c.args.part.now n c.args.person q c.args.branch) end

@@ -1,8 +1,8 @@
--- The lists are found one behind the other.
-use Rattle.plans.proofs.Laid.{laid}
+-- Each list is found right behind the one before.
+use Rattle.std.proofs.Common.{rules}
+use Rattle.plans.specs.Layout.{layout_of, branches_in, roles_in, principal_in, grants_in, takes_in, sets_in, pieces_in}
 use Rattle.plans.proofs.layout.lay_out.Goals as goal
 
 pub returns : goal.returns
-returns c =
-    laid c.args.bytes.now c.list-branches.result c.list-roles.result c.list-grants.result c.list-takes.result c.list-sets.result c.two.result
-    c.list-branches.ensures.is c.list-roles.ensures.is c.list-grants.ensures.is c.list-takes.ensures.is c.list-sets.ensures.is c.two.ensures
+unfolding layout_of branches_in roles_in principal_in grants_in takes_in sets_in pieces_in
+returns c = search rules

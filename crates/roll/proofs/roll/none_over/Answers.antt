@@ -1,11 +1,15 @@
--- The loop stops at a share that is over the most.
-use Rattle.std.proofs.Common.{leb, get_or, sym, arith}
-use Rattle.refusals.proofs.Rows.{all_more, all_stops}
+-- The chain tests the share of each branch that has one; the others have none.
+use Rattle.std.proofs.Common.{rules, tests, ℕ, Bool, leb, refl, ◌∙◌}
+use Rattle.roll.proofs.RollFacts.{all_taken}
 use Rattle.roll.proofs.roll.none_over.Goals as goal
-use Rattle.std.proofs.lemmas.Bool.{le-leb, lt-leb}
+use Rattle.std.proofs.lemmas.Iterator.{YieldsList-from_slice, YieldsList-from_take}
+use Rattle.std.proofs.lemmas.Iterator.Consumers.{YieldsList-at}
+use Rattle.std.proofs.lemmas.Iterator.Search.{all_from_yields_List}
 
-pub loop-b-preserved : goal.loop-b-preserved
-loop-b-preserved c = all_more (λ b. leb (get_or c.args.shares.now b 0) 1024) c.loop-b.b c.loop-b.invariant (le-leb _ 1024 (omega (arith, c.share_at.ensures)))
-
-pub returns-then-share_at-gt-MOST : goal.returns-then-share_at-gt-MOST
-returns-then-share_at-gt-MOST c = sym (all_stops (λ b. leb (get_or c.args.shares.now b 0) 1024) c.args.branches c.loop-b.b (omega arith) (lt-leb _ 1024 (omega (arith, c.share_at.ensures))))
+pub returns : goal.returns
+returns c =
+    let test : ℕ → Bool = λ share. leb share 1024 in
+    all_from_yields_List test _ _ c.all.result c.all.ensures.ran
+    (YieldsList-from_take c.args.branches (YieldsList-at c.take.ensures.source (YieldsList-from_slice c.args.shares.now (cc))) c.take.ensures.count)
+    (λ x b q k. search (rules, tests))
+    ∙ all_taken test refl c.args.shares.now c.args.branches

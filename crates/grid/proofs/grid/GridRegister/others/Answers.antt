@@ -1,33 +1,35 @@
--- The loop counts the other persons of the row who have the bit.
-use Rattle.std.proofs.Common.{◌≡◌, ◌+◌, ◌<◌, not, ◌&&◌, eqb, get_or, is_err, sym, ap, ◌∙◌, arith}
-use Rattle.grid.proofs.GridFacts.{grid_bit}
+-- The row of the branch tells how many others are posted.
+use Rattle.std.proofs.Common.{ℕ, not, ◌&&◌, eqb, List, length, get_or, is_err, sym, ap, ◌∙◌, arith, rules, tests}
+use Rattle.grid.proofs.GridFacts.{row_length, row_others}
 use Rattle.grid.proofs.grid.GridRegister.others.Goals as goal
-use Rattle.grid.proofs.grid.GridRegister.others.Goals.{then-is_other, else-is_other}
 use Rattle.grid.specs.Grid.{grid_branches, grid_posted}
 use Rattle.orders.specs.Masks.{has_bit}
 use Rattle.refusals.specs.Checks.{in_order}
-use Rattle.registers.proofs.PostingFacts.{count_no, count_none, count_yes, others_none, own_numbers}
-use Rattle.registers.specs.Meaning.{number_steps}
+use Rattle.registers.proofs.PostingFacts.{count_most, others_none, own_numbers}
+use Rattle.registers.specs.Meaning.{Inside, number_steps}
+use Rattle.search.specs.Searches.{count_below}
 
 pub returns-then-is_err : goal.returns-then-is_err
 returns-then-is_err c =
     let s = c.args.self.now in
-    sym (others_none (grid_posted s.cells.now s.branches) (grid_branches s.cells.now s.branches) c.args.person c.args.role c.args.branch c.branch_count.ensures.inside
-    (sym (c.if-is_err.ensures.value ∙ ap is_err (c.check_numbers.ensures.answer ∙ ap (λ n. in_order (number_steps n c.args.person c.args.role c.args.branch)) c.branch_count.ensures.count))))
+    let it = c.args.posting in
+    let inside : Inside (grid_posted s.cells.now s.branches) (grid_branches s.cells.now s.branches) = search (rules, tests) in
+    sym (others_none (grid_posted s.cells.now s.branches) (grid_branches s.cells.now s.branches) it.person it.role it.branch inside
+    (sym (c.if-is_err.ensures.value ∙ ap is_err (c.check.ensures.answer ∙ ap (λ n. in_order (number_steps n it.person it.role it.branch)) c.branch_count.ensures))))
 
-pub loop-other-init : goal.loop-other-init
-loop-other-init c = (omega arith, sym (count_none _))
-
-pub loop-other-preserved : goal.loop-other-preserved
-loop-other-preserved c =
+pub overflow_cast-result : goal.overflow_cast-result
+overflow_cast-result c =
     let s = c.args.self.now in
-    let own : (c.args.person < 64) × (c.args.role < 16) × (c.args.branch < c.branch_count.result) = own_numbers c.check_numbers.result _ (sym c.if-is_err.ensures.value) c.check_numbers.ensures.passed in
-    let branch : c.args.branch < grid_branches s.cells.now s.branches = omega (arith, c.branch_count.ensures.count, own.2) in
-    let bit : has_bit (get_or s.cells.now c.place.result 0) c.args.role ≡ grid_posted s.cells.now s.branches c.loop-other.other c.args.role c.args.branch =
-    ap (λ k. has_bit (get_or s.cells.now k 0) c.args.role) c.place.ensures ∙ sym (grid_bit s.cells.now s.branches c.loop-other.other c.args.role c.args.branch (omega arith) own.1 branch) in
-    let told : c.is_other.result ≡ (not (eqb c.loop-other.other c.args.person) && grid_posted s.cells.now s.branches c.loop-other.other c.args.role c.args.branch) =
-    c.is_other.ensures ∙ ap (λ b. not (eqb c.loop-other.other c.args.person) && b) bit in
-    elim c.if-is_other.branch [
-      | then-is_other w ↦ (omega (arith, w.count-is), w.count-is ∙ ap (λ n. n + 1) c.loop-other.invariant.1 ∙ sym (count_yes _ c.loop-other.other (sym told ∙ w.if-is_other.true)))
-      | else-is_other w ↦ (omega (arith, w.count-is), w.count-is ∙ c.loop-other.invariant.1 ∙ sym (count_no _ c.loop-other.other (sym told ∙ w.if-is_other.false)))
-    ]
+    let it = c.args.posting in
+    let own = own_numbers c.check.result _ (sym c.if-is_err.ensures.value) c.check.ensures.passed in
+    let size = row_length s.cells.now s.branches it.branch (omega (arith, c.branch_count.ensures, own.2)) in
+    omega (arith, c.others_in.ensures, count_most (λ x. not (eqb x it.person) && has_bit (get_or c.row.result.now x 0) it.role) (length c.row.result.now), ap length c.row.ensures, size)
+
+pub returns : goal.returns
+returns c =
+    let s = c.args.self.now in
+    let it = c.args.posting in
+    let own = own_numbers c.check.result _ (sym c.if-is_err.ensures.value) c.check.ensures.passed in
+    c.others_in.ensures
+    ∙ ap (λ (row : List ℕ). count_below (length row) (λ x. not (eqb x it.person) && has_bit (get_or row x 0) it.role)) c.row.ensures
+    ∙ row_others s.cells.now s.branches it.person it.role it.branch own.0 own.1 (omega (arith, c.branch_count.ensures, own.2))

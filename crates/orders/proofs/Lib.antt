@@ -1,0 +1,2 @@
+-- Lemmas that the proofs share.
+mod Below
