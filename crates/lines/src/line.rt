@@ -33,7 +33,8 @@ fn lay_number(line: &mut [u8], at: usize, number: u16) -> usize
     lay(line, digits_at, Buffer::new().format(number).as_bytes())
 }
 
-// Writes the line of a message from the start of the memory, and says how many bytes it has; the bytes behind it stay.
+// Writes the line of a message from the start of the memory, which the caller lends, and says how many bytes it has; the bytes behind it
+// stay.
 pub fn write(word: Word, first: u16, second: u16, third: u16, line: &mut [u8; LINE]) -> usize
     ensures length { result ≡ length (line_of word first second third) }
     ensures bytes { line.new ≡ line_of word first second third ++ drop (length (line_of word first second third)) line.old }

@@ -1,5 +1,5 @@
 -- Posts beside each other: a look at all earlier ones at once, and posts that were read from bytes.
-use Rattle.std.proofs.Common.{◌≡◌, ℕ, zero, suc, ◌<◌, ◌≤◌, Bool, true, false, not, ◌||◌, List, length, get_or, [], ◌∷◌, take, map, Ok, Result, sym, refl, ap, ◌∙◌, add-one, arith}
+use Rattle.std.proofs.Common.{◌≡◌, ℕ, zero, suc, ◌<◌, ◌≤◌, Bool, true, false, not, ◌||◌, List, length, get_or, [], ◌∷◌, take, map, Ok, Result, sym, refl, ap, ◌∙◌, subst, add-one, arith}
 use Rattle.std.specs.List.{list_any, enumerate_from, range_with_len}
 use Rattle.std.proofs.lemmas.List.FromFn.{get_or-enumerate_from, length-enumerate_from, get_or-map-range_with_len, length-map-range_with_len}
 use Rattle.std.proofs.lemmas.List.Folds.{list_any_more}
@@ -75,7 +75,8 @@ pub posts_decide : (b : List ℕ) (count : ℕ) → count ≡ byte_at b 5 → in
 unfolding message_result
 posts_decide b count is passed =
     let few = fields_few b (byte_at b 3) count passed in
-    let fields : lifted (in_order (field_steps b (byte_at b 3) (byte_at b 5))) ≡ Ok tt = ap lifted (rw is at passed) in
-    last_says (lifted (in_order (field_steps b (byte_at b 3) (byte_at b 5))) ∷ []) (apart_checked b (byte_at b 5)) (fields, tt)
+    let steps = field_steps b (byte_at b 3) (byte_at b 5) in
+    let fields : lifted (in_order steps) ≡ Ok tt = subst (λ n. lifted (in_order (field_steps b (byte_at b 3) n)) ≡ Ok tt) is (ap lifted {x = in_order (field_steps b (byte_at b 3) count)} passed) in
+    last_says (lifted (in_order steps) ∷ []) (apart_checked b (byte_at b 5)) (fields, tt)
     ∙ ap (apart_checked b) (sym is)
     ∙ sym (ap apart_posts (filled_front 4 count no_post (post_in b) few.1) ∙ apart_read b count)

@@ -1,10 +1,9 @@
 // The kinds of call, and the number by which a message names each.
-ghost use Rattle.std.specs.Prelude.{◌≡◌};
+ghost use Rattle.std.specs.Prelude.{◌≡◌, IfOk};
 ghost use Rattle.refusals.specs.Checks.{verdict, must};
 ghost use Rattle.fields.specs.declared.fault.FieldFault.TheVariants.{Value};
 ghost use Rattle.messages.specs.Calls.{kind_number};
 ghost use Rattle.messages.specs.Numbers.{within};
-ghost use Rattle.std.specs.Prelude.{IfOk};
 
 use crate::limits::CALL_AT;
 use fields::FieldFault;

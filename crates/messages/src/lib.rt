@@ -18,7 +18,6 @@ pub use fault::MessageFault;
 pub use limits::{BODY, COUNT_AT, MESSAGE, PERSON_AT, POST, POSTS, POSTS_AT};
 pub use message::{Message, blank};
 pub use post::Post;
-pub use posts::check_apart;
 pub use reader::{check, read};
 pub use sitting::Sitting;
 pub use writer::write;

@@ -8,7 +8,7 @@ use crate::post::Post;
 use refusals::must;
 
 // None of the first posts repeats another.
-pub fn check_apart(posts: &[Post; POSTS], count: u8) -> Result<(), MessageFault>
+pub(crate) fn check_apart(posts: &[Post; POSTS], count: u8) -> Result<(), MessageFault>
     ensures { result ≡ apart_posts (take count posts.now) }
 {
     for (place, post) in posts.iter().take(count as usize).enumerate() {

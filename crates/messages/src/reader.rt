@@ -39,7 +39,7 @@ fn check_fields(bytes: &[u8], count: u8) -> Result<CallKind, FieldFault>
     header(bytes, BODY)?;
     let kind = check_kind(bytes)?;
     check_below(bytes, PERSON_AT, PERSONS as u16)?;
-    field(bytes, COUNT_AT, 1, 1 <= count && count as usize <= POSTS)?;
+    field(bytes, COUNT_AT, 1, (1..=POSTS as u8).contains(&count))?;
     check_list::<Post>(bytes, (), POSTS_AT, count as u16)?;
     let arguments = offset::<Post>(POSTS_AT, count as u16);
     check_arguments(bytes, kind, arguments)?;

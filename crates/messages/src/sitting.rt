@@ -5,7 +5,8 @@ ghost use Rattle.messages.specs.Posts.{Apart};
 use crate::limits::POSTS;
 use crate::post::Post;
 
-// A person with one to four posts, no two of them the same.
+// A person with one to four posts, no two of them the same. The places stay an array: a message is copied as it stands, and is read into
+// memory of fixed size, with the empty post behind the last.
 #[derive(Clone, Copy)]
 pub struct Sitting {
     pub person: u8,

@@ -16,8 +16,9 @@ use crate::reader::check;
 use crate::sitting::Sitting;
 use arrayvec::ArrayVec;
 use fields::FieldFault;
+use refusals::must;
 
-// Adds the posts of the sitting to the bytes before them.
+// Adds the posts of the sitting to the bytes before them, behind which there is room for four.
 fn add_posts(bytes: &mut ArrayVec<u8, MESSAGE>, sitting: &Sitting)
     requires { length bytes.old.items ≤ 6 }
     ensures { bytes.new.items ≡ bytes.old.items ++ flat_map post_bytes (take sitting.now.count sitting.now.posts) }
@@ -28,7 +29,7 @@ fn add_posts(bytes: &mut ArrayVec<u8, MESSAGE>, sitting: &Sitting)
     }
 }
 
-// Adds the arguments of the call to the bytes before them.
+// Adds the arguments of the call to the bytes before them, behind which there is room for three.
 fn add_arguments(bytes: &mut ArrayVec<u8, MESSAGE>, call: Call)
     requires { length bytes.old.items + 3 ≤ 17 }
     ensures { bytes.new.items ≡ bytes.old.items ++ arguments_of call }
@@ -99,9 +100,7 @@ pub fn write(message: &Message, into: &mut [u8]) -> Result<usize, MessageFault>
     ensures leaves { MatchResult result (λ n. into.new ≡ written (said message.now) ++ drop n into.old) (λ _. into.new ≡ into.old) }
     ensures read_back { OnOk result ((message_result (written (said message.now)) ≡ Ok tt) × (said_in (written (said message.now)) ≡ said message.now)) }
 {
-    if into.len() < MESSAGE {
-        return Err(MessageFault::Field(FieldFault::Length(into.len())));
-    }
+    must(into.len() >= MESSAGE, FieldFault::Length(into.len()))?;
     let bytes = bytes_of(message);
     check(&bytes)?;
     into[..bytes.len()].copy_from_slice(&bytes);

@@ -42,15 +42,14 @@ impl Filled {
     }
 }
 
-// A state that a post may be added to.
+// A state that a post may be added to. No other crate can name the trait: there are the two below.
 pub trait TakesPosts: Drop {
     // the posts so far
     ghost posts: { Self → List Posted };
 
     // The posts so far.
     fn so_far(&self) -> &[Post]
-        ensures all { result.now ≡ posts self.now }
-        ensures few { length result.now ≤ 4 };
+        ensures { result.now ≡ posts self.now };
 
     // The same posts, and one more behind them.
     fn with(self, post: Post) -> Filled
@@ -80,9 +79,8 @@ impl TakesPosts for Filled {
         &self.posts
     }
 
-    fn with(self, post: Post) -> Filled {
-        let Filled { mut posts } = self;
-        posts.push(post);
-        Filled { posts }
+    fn with(mut self, post: Post) -> Filled {
+        self.posts.push(post);
+        self
     }
 }

@@ -12,5 +12,5 @@ returns-clause-begun g c =
     let post = c.args.post in
     let posts = g.S.TakesPosts.posts draft.state in
     let next : Draft (List Post) = record { memory = draft.memory; person = draft.person; state = c.with.result } in
-    let passed : add_result posts post ≡ Ok tt = ap (λ before. add_result before post) (sym c.so_far.ensures.all) ∙ sym c.check_add.ensures ∙ c.in_default.is in
+    let passed : add_result posts post ≡ Ok tt = ap (λ before. add_result before post) (sym c.so_far.ensures) ∙ sym c.check_add.ensures ∙ c.in_default.is in
     more_begun draft next posts post record { person = refl; memory = refl } c.with.ensures passed

@@ -3,8 +3,8 @@ use Rattle.std.proofs.Common.{[], ◌∷◌, sym, arith, length-append}
 use Rattle.drafts.proofs.Apart.{apart_more}
 use Rattle.drafts.proofs.draft.filled.FilledTakesPosts.with.Goals as goal
 
-pub invariant_of-result : goal.invariant_of-result
-invariant_of-result c =
+pub invariant_of-self : goal.invariant_of-self
+invariant_of-self c =
     let posts = c.self.inside.posts.items in
     let post = c.args.post in
     let new = rw (sym c.self.view_is) at c.requires.new in
