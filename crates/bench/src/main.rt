@@ -1,21 +1,22 @@
 // Reads a plan and an evening's messages, and prints what it reads: see docs/FORMATS.md, "What bench reads and prints".
 #![tactic(auto)]
 
+ghost use Rattle.std.specs.Prelude.{◌≤◌, length, IfOk};
+
 mod framing;
 mod showing;
 
 use framing::{ends_the_run, wanted};
 use lines::{LINE, Word, write_refusal};
-use messages::Message;
+use messages::{MESSAGE, Message};
 use plans::Plan;
 use refusals::Refusal;
 use showing::{show_message, show_plan};
-use std::alloc::Global;
 use std::io::{BufReader, BufWriter, Read, Write};
 use std::{fs, io};
 
 // The bytes before a message's body.
-const HEADER: u64 = 3;
+const HEADER: usize = 3;
 
 // Prints the line of a word and a refusal.
 fn tell<W: Write>(out: &mut W, word: Word, refusal: Refusal) -> io::Result<()> {
@@ -24,15 +25,33 @@ fn tell<W: Write>(out: &mut W, word: Word, refusal: Refusal) -> io::Result<()> {
     out.write_all(&line[..end])
 }
 
-// Reads the bytes of the next message, as many as there are of it.
-fn next_message<R: Read>(input: &mut R, bytes: &mut Vec<u8>) -> io::Result<()> {
-    bytes.clear();
-    let header = input.by_ref().take(HEADER).read_to_end(bytes)?;
-    if header as u64 == HEADER {
-        let body = wanted(bytes);
-        input.by_ref().take(body as u64).read_to_end(bytes)?;
+// Reads until the memory is full or the input has ended, and says how many bytes were read. Memory and not a `Vec` that grows by
+// `take(n).read_to_end(..)`: of that nothing is proved about how many bytes came.
+fn read_up_to<R: Read>(input: &mut R, memory: &mut [u8]) -> io::Result<usize>
+    ensures { IfOk result (λ held. held ≤ length memory.old) }
+{
+    let mut held = 0;
+    while held < memory.len() {
+        let more = input.read(&mut memory[held..])?;
+        if more == 0 {
+            break;
+        }
+        held += more;
     }
-    Ok(())
+    Ok(held)
+}
+
+// Reads the bytes of the next message, as many as there are of it, and says how many.
+fn next_message<R: Read>(input: &mut R, memory: &mut [u8; MESSAGE]) -> io::Result<usize>
+    ensures { IfOk result (λ held. held ≤ 17) }
+{
+    let header = read_up_to(input, &mut memory[0..HEADER])?;
+    if header < HEADER {
+        return Ok(header);
+    }
+    let end = HEADER + wanted(&memory[0..HEADER]);
+    let body = read_up_to(input, &mut memory[HEADER..end])?;
+    Ok(HEADER + body)
 }
 
 // Shows one message, or says why it cannot be read; answers whether the run goes on.
@@ -50,13 +69,13 @@ fn take_message<W: Write>(bytes: &[u8], message: &mut Message, out: &mut W) -> i
 }
 
 // Goes through the messages until the input ends or one of them says no more where the next begins.
-fn take_messages<R: Read, W: Write>(heap: Global, input: &mut R, out: &mut W) -> io::Result<()> {
-    let mut bytes = Vec::new(heap);
+fn take_messages<R: Read, W: Write>(input: &mut R, out: &mut W) -> io::Result<()> {
+    let mut memory = [0; MESSAGE];
     let mut message = messages::blank();
     // A count in place of `loop`: an input may never end, and every loop has to.
     for _ in 0..u64::MAX {
-        next_message(input, &mut bytes)?;
-        if bytes.is_empty() || !take_message(&bytes, &mut message, out)? {
+        let held = next_message(input, &mut memory)?;
+        if held == 0 || !take_message(&memory[0..held], &mut message, out)? {
             break;
         }
     }
@@ -82,8 +101,7 @@ fn run(rt: &HostRuntime) -> io::Result<()> {
     match plans::read(&bytes, &mut plan) {
         Ok(()) => {
             show_plan(&plan, &mut out)?;
-            let mut input = BufReader::new(rt.alloc(), rt.stdin())?;
-            take_messages(rt.alloc(), &mut input, &mut out)?;
+            take_messages(&mut BufReader::new(rt.alloc(), rt.stdin())?, &mut out)?;
         }
         Err(fault) => tell(&mut out, Word::Plan, Refusal::from(fault))?,
     }

@@ -3,7 +3,6 @@ use Rattle.std.proofs.Common.{◌≡◌, ℕ, ◌+◌, ◌*◌, ◌/◌, ◌<◌
 use Rattle.grid.specs.Grid.{grid_branches, grid_posted, grid_share}
 use Rattle.orders.specs.RowsFacts.{bit_past}
 use Rattle.orders.specs.Masks.{has_bit}
-use Rattle.registers.proofs.BitFacts.{no_bit}
 use Rattle.registers.proofs.PostingFacts.{count_same, postings_less, put_passes, take_passes}
 use Rattle.registers.specs.Meaning.{added, others_at, postings_at, put_checked, removed, same_posting, take_checked}
 use Rattle.search.specs.Searches.{count_below}
@@ -33,12 +32,6 @@ module _ (cells : List ℕ) (branches : ℕ) where
             bit_past 16 (get_or cells (branch * 64 + person) 0) role fits past
             ∙ sym (grid_cell person role branch h k ∙ ap (λ t. t && has_bit (get_or cells (branch * 64 + person) 0) role) (le-ltb role 16 past))
       ]
-
-  -- nobody is posted where every cell is 0
-  pub grid_empty : ((k : ℕ) → get_or cells k 0 ≡ 0) → (x y z : ℕ) → grid_posted cells branches x y z ≡ false
-  grid_empty none x y z =
-      let bit : has_bit (get_or cells (z * 64 + x) 0) y ≡ false = ap (λ c. has_bit c y) (none (z * 64 + x)) ∙ no_bit y in
-      and_right (ltb x 64) _ (and_right (ltb y 16) _ (and_right (ltb z (grid_branches cells branches)) _ bit))
 
   -- a branch's row of cells has one for each person
   pub row_length : (branch : ℕ) → branch < grid_branches cells branches → length (take 64 (drop (branch * 64) cells)) ≡ 64

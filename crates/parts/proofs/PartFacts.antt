@@ -1,5 +1,5 @@
 -- What a part of a roll says: as a loop goes through its records, of how many postings it has, and of records written and freed.
-use Rattle.std.proofs.Common.{◌≡◌, ℕ, zero, suc, ◌+◌, ◌<◌, ◌≤◌, Bool, true, false, cond, not, ◌&&◌, ◌||◌, eqb, ltb, List, map, length, get_or, set, Some, None, Option, sym, refl, ap, ◌∙◌, subst, inl, inr, add-one, arith}
+use Rattle.std.proofs.Common.{◌≡◌, ℕ, zero, suc, ◌+◌, ◌<◌, ◌≤◌, Bool, true, false, cond, not, ◌&&◌, ◌||◌, eqb, ltb, List, [], ◌∷◌, ◌++◌, map, length, get_or, set, Some, None, Option, sym, refl, ap, ◌∙◌, subst, inl, inr, add-one, arith}
 use Rattle.std.specs.Prelude.{MatchOption}
 use Rattle.orders.specs.Masks.{has_bit}
 use Rattle.registers.proofs.PostingFacts.{count_raised, count_same, postings_added, postings_none, postings_same}
@@ -8,7 +8,7 @@ use Rattle.registers.specs.declared.posting.Posting.{Posting}
 use Rattle.parts.specs.Part.{among, held, is_news, is_other, posts, spare, without}
 use Rattle.search.proofs.Searches.{any_at, any_fails, any_more, any_none, any_same, any_some}
 use Rattle.search.specs.Searches.{any_below, count_below}
-use Rattle.std.proofs.lemmas.List.{get_or-map, get_or-set_other, get_or-set_same}
+use Rattle.std.proofs.lemmas.List.{get_or_append_left, get_or_push, get_or-map, get_or-set_other, get_or-set_same, length_push}
 use Rattle.std.proofs.lemmas.Bool.{and_from, and_left, and_parts, and_right, both_ways, cases_Bool, cases_eq, cases_lt, eq-eqb, eqb-true, le-ltb, lt-ltb, ltb-true, ne_eqb, not-false, not-true, or_cases, or_left, or_right, true≢false}
 use Rattle.std.proofs.lemmas.Bool.Decides.{nat_tests}
 
@@ -53,12 +53,19 @@ pub held_among : (part : List (Option Posting)) (n x y z : ℕ) → x < 64 → y
 held_among part n x y z h k =
     ap (λ b. b && (ltb y 16 && among part n x y z)) (lt-ltb x 64 h) ∙ ap (λ b. b && among part n x y z) (lt-ltb y 16 k)
 
--- one record more of a mask of roles
-pub roles_more : (part : List (Option Posting)) (n x y z : ℕ) (before after : Bool) → before ≡ (ltb y 16 && among part n x y z) → after ≡ (before || (ltb y 16 && is_posting (get_or part n None) x y z)) → after ≡ (ltb y 16 && among part (n + 1) x y z)
-roles_more part n x y z before after b e =
-    e ∙ ap (λ t. t || (ltb y 16 && is_posting (get_or part n None) x y z)) b
-    ∙ and_over_or (ltb y 16) (among part n x y z) (is_posting (get_or part n None) x y z)
-    ∙ ap (λ t. ltb y 16 && t) (sym (among_more part n x y z))
+-- a mask of the roles of a part, with the role of one record more
+pub roles_more : (part : List (Option Posting)) (found : Option Posting) (x z before after : ℕ) → ((q : ℕ) → has_bit before q ≡ (ltb q 16 && among part (length part) x q z)) → ((q : ℕ) → has_bit after q ≡ (has_bit before q || (ltb q 16 && is_posting found x q z))) → (q : ℕ) → has_bit after q ≡ (ltb q 16 && among (part ++ (found ∷ [])) (length (part ++ (found ∷ []))) x q z)
+roles_more part found x z before after was more q =
+    more q
+    ∙ ap (λ b. b || (ltb q 16 && is_posting found x q z)) (was q)
+    ∙ and_over_or (ltb q 16) (among part (length part) x q z) (is_posting found x q z)
+    ∙ ap (λ b. ltb q 16 && b)
+    ((λ i. any_same _ (λ k. is_posting (get_or (part ++ (found ∷ [])) k None) x q z) (length part) (λ k h. ap (λ it. is_posting it x q z) (sym (get_or_append_left part (found ∷ []) None k h))) i || is_posting (last i) x q z)
+    ∙ sym (among_more (part ++ (found ∷ [])) (length part) x q z)
+    ∙ ap (λ n. among (part ++ (found ∷ [])) n x q z) (sym (length_push part found)))
+  where
+    last : found ≡ get_or (part ++ (found ∷ [])) (length part) None
+    last = sym (get_or_push part found None (length part) refl)
 
 -- the others, with one record more
 pub other_more : (part : List (Option Posting)) (n person role branch x : ℕ) → (not (eqb x person) && among part (n + 1) x role branch) ≡ ((not (eqb x person) && among part n x role branch) || (not (eqb x person) && is_posting (get_or part n None) x role branch))

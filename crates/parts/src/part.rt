@@ -34,14 +34,11 @@ fn with_role(mask: u16, record: Option<Posting>, person: u8, branch: u8) -> u16
 pub fn roles_in(part: &[Option<Posting>], person: u8, branch: u8) -> u16
     ensures { (q : ℕ) → has_bit result q ≡ (nat_lt q 16 && among part.now (length part.now) person q branch) }
 {
-    let mut mask = 0;
-    for record in part {
-        mask = with_role(mask, *record, person, branch);
-    }
-    mask
+    part.iter()
+        .fold(0, |mask, record| with_role(mask, *record, person, branch))
 }
 
-// Tells whether `other` is of somebody else than a posting, to the same role at the same branch.
+// Tells whether `other` posts somebody else than a posting does, to the same role at the same branch.
 fn is_other(other: Posting, posting: Posting) -> bool
     ensures { result ≡ is_other other posting.person posting.role posting.branch }
 {
@@ -51,7 +48,7 @@ fn is_other(other: Posting, posting: Posting) -> bool
         && other.person != posting.person
 }
 
-// Marks whom a record posts, if it is somebody else than in a posting who is not yet marked, and tells whether that is so.
+// Marks whom a record posts, if that is somebody else than a posting's and not yet marked, and tells whether that is so.
 fn mark(seen: &mut [bool; PLACES], record: Option<Posting>, posting: Posting) -> bool
     ensures told { MatchOption «record» (result ≡ false) (λ it. result ≡ (is_other it posting.person posting.role posting.branch && not (slice_index_or seen.old it.person false))) }
     ensures marked { (k : ℕ) → slice_index_or seen.new k false ≡ (slice_index_or seen.old k false || (result && is_posting «record» k posting.role posting.branch)) }
@@ -66,7 +63,7 @@ fn mark(seen: &mut [bool; PLACES], record: Option<Posting>, posting: Posting) ->
     true
 }
 
-// Tells how many persons other than a posting's a part posts to its role.
+// Tells how many persons other than a posting's a part posts to its role: a loop over the records that counts each once.
 pub fn others_in(part: &[Option<Posting>], posting: Posting) -> u8
     ensures { result ≡ count_below 64 (λ x. not (x == posting.person) && among part.now (length part.now) x posting.role posting.branch) }
 {
@@ -102,7 +99,7 @@ fn note(seen: &mut [u16; PLACES], record: Option<Posting>, branch: u8) -> bool
     true
 }
 
-// Finds the first record of a part that may be written over.
+// Finds the first record of a part that may be written over: a loop, since what is noted changes as it goes.
 pub fn spare_in(part: &[Option<Posting>], branch: u8) -> Option<usize>
     ensures { result ≡ first_below (length part.now) (spare part.now branch) }
 {

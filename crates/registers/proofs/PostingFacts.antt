@@ -5,7 +5,7 @@ use Rattle.refusals.specs.Checks.{in_order, must, then}
 use Rattle.registers.specs.Meaning.{Inside, Postings, added, number_steps, others_at, postings_at, put_checked, same_posting, take_checked}
 use Rattle.registers.specs.declared.fault.RegisterFault.{RegisterFault}
 use Rattle.registers.specs.declared.fault.RegisterFault.TheVariants.{NoPerson, NoRole, NoBranch, Posted, NotPosted, Full}
-use Rattle.search.proofs.Sums.{sum_less, sum_more, sum_most, sum_none, sum_raised, sum_same}
+use Rattle.search.proofs.Sums.{sum_less, sum_most, sum_raised, sum_same}
 use Rattle.search.specs.Searches.{count_below}
 use Rattle.std.proofs.lemmas.Bool.{and_right, cases_Bool, cases_lt, cond-false, cond-true, le-ltb, lt-ltb, true≢false}
 use Rattle.std.proofs.lemmas.Bool.Decides.{nat_tests}
@@ -30,16 +30,6 @@ count_same fits also n same = sum_same _ _ n (λ k h. ap (λ b. cond b 1 0) (sam
 -- nothing fits
 pub count_zero : (fits : ℕ → Bool) (n : ℕ) → ((k : ℕ) → k < n → fits k ≡ false) → count_below n fits ≡ 0
 count_zero fits n none = omega (arith, sum_most (λ k. cond (fits k) 1 0) 0 n (λ k h. subst (λ b. cond b 1 0 ≤ 0) (sym (none k h)) (omega arith)))
-
--- one turn of a loop that counts
-pub count_none : (fits : ℕ → Bool) → count_below 0 fits ≡ 0
-count_none fits = sum_none (λ k. cond (fits k) 1 0)
-
-pub count_yes : (fits : ℕ → Bool) (n : ℕ) → fits n ≡ true → count_below (n + 1) fits ≡ count_below n fits + 1
-count_yes fits n e = sum_more (λ k. cond (fits k) 1 0) n ∙ ap (λ b. count_below n fits + cond b 1 0) e
-
-pub count_no : (fits : ℕ → Bool) (n : ℕ) → fits n ≡ false → count_below (n + 1) fits ≡ count_below n fits
-count_no fits n e = omega (arith, sum_more (λ k. cond (fits k) 1 0) n ∙ ap (λ b. count_below n fits + cond b 1 0) e)
 
 -- one number more fits
 pub count_raised : (fits now' : ℕ → Bool) (n k : ℕ) → k < n → ((j : ℕ) → j < n → (j ≡ k → ⊥) → now' j ≡ fits j) → fits k ≡ false → now' k ≡ true → count_below n now' ≡ count_below n fits + 1
@@ -127,17 +117,10 @@ module _ (posted : Postings) (branches : ℕ) (share : ℕ → ℕ) (person role
   pub put_passes : posted person role branch ≡ false → postings_at posted branch < share branch → put_checked posted branches share person role branch ≡ Ok tt
   put_passes absent room = past_posted absent ∙ ap (λ b. then (must b (Full branch)) (Ok tt)) (lt-ltb (postings_at posted branch) (share branch) room)
 
-  -- a put of what is there
-  pub put_posted : posted person role branch ≡ true → put_checked posted branches share person role branch ≡ Err (Posted branch)
-  put_posted there = past_numbers ∙ ap (λ b. then (must (not b) (Posted branch)) (then (must (ltb (postings_at posted branch) (share branch)) (Full branch)) (Ok tt))) there
-
   -- a put at a branch that has no room
   pub put_full : posted person role branch ≡ false → share branch ≤ postings_at posted branch → put_checked posted branches share person role branch ≡ Err (Full branch)
   put_full absent full = past_posted absent ∙ ap (λ b. then (must b (Full branch)) (Ok tt)) (le-ltb (postings_at posted branch) (share branch) full)
 
-  -- a take of what is there, and of what is not
+  -- a take of what is there
   pub take_passes : posted person role branch ≡ true → take_checked posted branches person role branch ≡ Ok tt
   take_passes there = ap (λ n. then n (then (must (posted person role branch) (NotPosted branch)) (Ok tt))) numbers ∙ ap (λ b. then (must b (NotPosted branch)) (Ok tt)) there
-
-  pub take_missing : posted person role branch ≡ false → take_checked posted branches person role branch ≡ Err (NotPosted branch)
-  take_missing absent = ap (λ n. then n (then (must (posted person role branch) (NotPosted branch)) (Ok tt))) numbers ∙ ap (λ b. then (must b (NotPosted branch)) (Ok tt)) absent

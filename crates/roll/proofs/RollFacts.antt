@@ -1,5 +1,5 @@
 -- What a roll says: where its parts are, that they are apart, and of a part that is changed.
-use Rattle.std.proofs.Common.{◌≡◌, ℕ, zero, suc, ◌+◌, ◌-◌, ◌<◌, ◌≤◌, min, Bool, true, false, not, ◌&&◌, ◌||◌, eqb, ltb, ◌⊎◌, List, [], ◌∷◌, map, length, get_or, take, drop, set, replicate, Some, None, Option, Ok, Err, sym, refl, ap, ◌∙◌, subst, inl, inr, arith}
+use Rattle.std.proofs.Common.{◌≡◌, ℕ, zero, suc, ◌+◌, ◌-◌, ◌<◌, ◌≤◌, min, Bool, true, false, not, ◌&&◌, ◌||◌, eqb, leb, ltb, ◌⊎◌, List, [], ◌∷◌, map, length, get_or, take, drop, set, replicate, Some, None, Option, Ok, Err, sym, refl, ap, ◌∙◌, subst, inl, inr, arith}
 use borrow.Rule.Slice.PartMut.{put_mid}
 use Rattle.refusals.proofs.Rows.{all_of, all_range, all_same, must_true}
 use Rattle.refusals.specs.Checks.{all}
@@ -54,7 +54,7 @@ module _ (items : ℕ) (shares : List ℕ) (branches : ℕ) where
   share_whole passed b own =
       let fit = must_true (shares_fit items shares branches) (Unfit items) passed in
       let enough : shares_before shares branches ≤ items =
-      leb-true (shares_before shares branches) items (and_parts _ _ (and_parts (ltb 0 (get_or shares 0 0)) _ (and_parts (eqb (length shares) branches) _ fit).1).1).1 in
+      leb-true (shares_before shares branches) items (and_parts (all branches (λ k. leb (get_or shares k 0) 1024)) _ (and_parts (ltb 0 (get_or shares 0 0)) _ (and_parts (eqb (length shares) branches) _ fit).1).1).1 in
       let more : shares_before shares (b + 1) ≡ shares_before shares b + get_or shares b 0 = sum_more (λ k. get_or shares k 0) b in
       let grows : shares_before shares (b + 1) ≤ shares_before shares branches = sum_grows (λ k. get_or shares k 0) (b + 1) branches (omega arith) in
       let e : roll_share items shares branches b ≡ min (get_or shares b 0) (items - roll_start items shares b) = cond-true (ltb b branches) _ 0 (lt-ltb b branches own) in

@@ -146,9 +146,9 @@ impl<'p, 's> Register for Roll<'p, 's> {
             !holds(self.part(posting.branch), posting),
             RegisterFault::Posted(posting.branch),
         )?;
-        let Some(i) = spare_in(self.part(posting.branch), posting.branch) else {
-            return Err(RegisterFault::Full(posting.branch));
-        };
+        let i = spare_in(self.part(posting.branch), posting.branch).ok_or(RegisterFault::Full(
+            posting.branch,
+        ))?;
         let start = self.start(posting.branch);
         self.records[start + i] = Some(posting);
         Ok(())

@@ -1,5 +1,5 @@
 -- What searches say: as a loop goes through the numbers, and of what they found.
-use Rattle.std.proofs.Common.{◌≡◌, ℕ, zero, suc, ◌+◌, ◌<◌, ◌≤◌, Bool, true, false, cond, ◌||◌, is_some, List, length, get_or, Some, None, Option, sym, refl, ap, ◌∙◌, subst, inl, inr, add-one, arith}
+use Rattle.std.proofs.Common.{◌≡◌, ℕ, zero, suc, ◌+◌, ◌<◌, Bool, true, false, cond, ◌||◌, is_some, List, length, get_or, Some, None, Option, sym, refl, ap, ◌∙◌, subst, inl, inr, add-one, arith}
 use Rattle.std.specs.List.{position, position_or_len}
 use Rattle.std.proofs.lemmas.Bool.{cases_lt, cond-false, cond-true, le-ltb, lt-ltb, or_cases, or_from, or_left, or_right, true≢false}
 use Rattle.std.proofs.lemmas.List.Sums.{fails_before_first, passes_at_first}
@@ -8,19 +8,6 @@ use Rattle.search.specs.Searches.{or_next, first_below, any_below}
 -- one turn of a loop that looks for the first
 pub first_more : (fits : ℕ → Bool) (n : ℕ) → first_below n fits ≡ None → fits n ≡ false → first_below (n + 1) fits ≡ None
 first_more fits n before here = rw add-one (ap (λ o. or_next o (fits n) n) before ∙ ap (λ b. cond b (Some n) None) here)
-
--- the end of that loop
-pub first_fewer : (fits : ℕ → Bool) (n m : ℕ) → m ≤ n → first_below n fits ≡ None → first_below m fits ≡ None
-first_fewer fits zero m h none = let e : m ≡ 0 = omega arith in subst (λ k. first_below k fits ≡ None) (sym e) refl
-first_fewer fits (suc n) m h none =
-    elim (cases_lt m (suc n)) [
-      | inl l ↦ first_fewer fits n m (omega arith) (before (first_below n fits) (fits n) none)
-      | inr g ↦ let e : m ≡ suc n = omega arith in subst (λ k. first_below k fits ≡ None) (sym e) none
-    ]
-  where
-    before : (o : Option ℕ) (b : Bool) → or_next o b n ≡ None → o ≡ None
-    before (Some k) b e = e
-    before None b e = refl
 
 -- the way out of that loop at a number that fits
 pub first_stops : (fits : ℕ → Bool) (n k : ℕ) → k < n → first_below k fits ≡ None → fits k ≡ true → first_below n fits ≡ Some k
@@ -50,12 +37,6 @@ first_position test xs d =
           cond-false _ (Some (position_or_len test xs)) None (le-ltb _ _ g)
           ∙ sym (first_none _ (length xs) (λ k h. fails_before_first test xs k d (omega arith)))
     ]
-
--- two tests that agree find the same
-pub first_same : (fits also : ℕ → Bool) (n : ℕ) → ((k : ℕ) → k < n → fits k ≡ also k) → first_below n fits ≡ first_below n also
-first_same fits also zero same = refl
-first_same fits also (suc n) same =
-    ap (λ o. or_next o (fits n) n) (first_same fits also n (λ k h. same k (omega arith))) ∙ ap (λ b. or_next (first_below n also) b n) (same n (omega arith))
 
 -- where nothing is found, nothing fits
 pub first_missed : (fits : ℕ → Bool) (n : ℕ) → first_below n fits ≡ None → (k : ℕ) → k < n → fits k ≡ false

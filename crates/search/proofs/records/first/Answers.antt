@@ -7,6 +7,5 @@ use Rattle.search.proofs.records.first.Goals as goal
 
 pub returns : goal.returns
 returns g c d =
-    let test = g.S.Sought.seeks c.args.sought.now in
-    position_from_yields_List test _ _ c.position.result c.position.ensures.ran (YieldsList-from_slice c.args.records.now cc) (λ x b q k. search (rules, tests))
-    ∙ first_position test c.args.records.now d
+    position_from_yields_List (g.S.Sought.seeks c.args.sought.now) _ _ c.position.result c.position.ensures.ran (YieldsList-from_slice c.args.records.now cc) (λ x b q k. search (rules, tests))
+    ∙ first_position _ c.args.records.now d
