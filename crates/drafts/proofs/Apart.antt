@@ -1,6 +1,6 @@
 -- Posts that are apart: one more that is new keeps them apart, and they pass the check that they are.
-use Rattle.std.proofs.Common.{◌≡◌, ℕ, ◌<◌, ◌≤◌, Bool, true, false, not, List, [], ◌∷◌, ◌++◌, length, get_or, take, Ok, ap, ◌∙◌, inl, inr, arith, length-append}
-use Rattle.std.proofs.lemmas.List.{get_or_append_left, get_or_at, get_or-take, length-take-le}
+use Rattle.std.proofs.Common.{◌≡◌, ℕ, ◌<◌, ◌≤◌, not, List, [], ◌∷◌, ◌++◌, length, get_or, take, Ok, ap, ◌∙◌, inl, inr, arith, length-append}
+use Rattle.std.proofs.lemmas.List.{get_or_append_left, get_or_at, get_or-take, length-take, length-take-le}
 use Rattle.std.proofs.lemmas.Bool.{cases_lt, le-leb, and_from, not-true}
 use Rattle.refusals.specs.Checks.{must}
 use Rattle.refusals.proofs.Rows.{every_at, every_of, must_of, must_true, passed_all}
@@ -24,23 +24,18 @@ apart_more posts post apart new i j h =
           (λ k. same_post (before k) (get_or_at posts post [] no_post j is k)) ∙ not-true _ (must_true _ _ (every_at (differs posts post) (length posts) i (omega arith) new))
     ]
 
-not_false : (b : Bool) → b ≡ false → not b ≡ true
-not_false b e = ap not e
+-- among the first posts, a later one is not an earlier one
+first_differ : (posts : List Post) (count : ℕ) → Apart posts count → (j i : ℕ) → j < count → i < j → differs (take j (take count posts)) (get_or (take count posts) j no_post) i ≡ Ok tt
+first_differ posts count apart j i h l =
+    let earlier = get_or-take j (take count posts) i no_post l ∙ get_or-take count posts i no_post (omega arith) in
+    let later = get_or-take count posts j no_post h in
+    must_of _ _ (ap not ((λ k. same_post (earlier k) (later k)) ∙ apart i j (l, h)))
 
 -- the first posts of a sitting pass
 pub seated : (posts : List Post) (count : ℕ) → 0 < count → count ≤ 4 → count ≤ length posts → Apart posts count → seat_result (length (take count posts)) (take count posts) ≡ Ok tt
 seated posts count some few all apart =
     let first = take count posts in
     let size : length first ≡ count = length-take-le count posts all in
-    passed_all (must (within 1 (length first) 4) (Field (Value 5)) ∷ apart_posts first ∷ []) (
-      must_of _ _ (and_from _ _ (le-leb 1 (length first) (omega arith)) (le-leb (length first) 4 (omega arith))),
-      (
-        every_of (new_at first) (length first)
-            (λ j h.
-            let before : length (take j first) ≡ j = length-take-le j first (omega arith) in
-            every_of (differs (take j first) (get_or first j no_post)) (length (take j first))
-            (λ i l.
-            must_of _ _ (not_false _ ((λ k. same_post ((get_or-take j first i no_post (omega arith) ∙ get_or-take count posts i no_post (omega arith)) k) (get_or-take count posts j no_post (omega arith) k)) ∙ apart i j (omega arith, omega arith))))),
-        tt,
-      ),
-    )
+    let number = and_from _ _ (le-leb 1 (length first) (omega arith)) (le-leb (length first) 4 (omega arith)) in
+    let new = λ (j : ℕ) (h : j < length first). every_of (differs (take j first) (get_or first j no_post)) (length (take j first)) (λ i l. first_differ posts count apart j i (omega arith) (omega (arith, length-take j first))) in
+    passed_all (must (within 1 (length first) 4) (Field (Value 5)) ∷ apart_posts first ∷ []) (must_of _ _ number, (every_of (new_at first) (length first) new, tt))

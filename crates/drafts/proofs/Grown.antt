@@ -34,7 +34,9 @@ added_more posts post added here =
 pub more_begun : {S : Type 0} (draft : Draft S) (next : Draft (List Post)) (posts : List Post) (post : Post) → GoesOn draft next → next.state ≡ posts ++ post ∷ [] → add_result posts post ≡ Ok tt → Grown draft posts → Begun next
 more_begun draft next posts post on held here grown =
     record {
-      begun = (λ i. begin_result (length (on.memory i).now) (on.person i)) ∙ grown.begun;
+      grown = record {
+        begun = (λ i. begin_result (length (on.memory i).now) (on.person i)) ∙ grown.begun;
+        added = subst (λ posts. every (length posts) (added_at posts) ≡ Ok tt) (sym held) (added_more posts post grown.added here);
+      };
       some = rw held (omega (arith, length-append posts (post ∷ [])));
-      added = subst (λ posts. every (length posts) (added_at posts) ≡ Ok tt) (sym held) (added_more posts post grown.added here);
     }

@@ -195,7 +195,7 @@ finish_says size s begun some added =
 
 -- only an argument can be wrong with a draft that was begun and added to
 pub begun_says : (draft : Draft (List Post)) (call : Call) → Begun draft → finish_result (length draft.memory.now) (length draft.state) (said_with draft call) ≡ arguments_result call (6 + 2 * length draft.state)
-begun_says draft call b = finish_says (length draft.memory.now) (said_with draft call) b.begun b.some b.added
+begun_says draft call b = finish_says (length draft.memory.now) (said_with draft call) b.grown.begun b.some b.grown.added
 
 -- where the posts are seated, a finish says what the writer says of the message
 pub finish_is : (draft : Draft (List Post)) (call : Call) (sitting : Sitting) → length sitting.posts ≡ 4 → sitting.person ≡ draft.person → take sitting.count sitting.posts ≡ draft.state → finish_result (length draft.memory.now) (length draft.state) (said_with draft call) ≡ verdict (write_result (said record { sitting = sitting; call = call }) (length draft.memory.now))

@@ -21,11 +21,10 @@ pub record Grown {S : Type 0} (draft : Draft S) (posts : List Post) : Type 0 whe
   pub begun : begin_result (length draft.memory.now) draft.person ≡ Ok tt
   pub added : every (length posts) (added_at posts) ≡ Ok tt
 
--- the draft was begun, and each of its posts was added behind those before it
+-- the draft was begun, and its posts were added so, one at least
 pub record Begun (draft : Draft (List Post)) : Type 0 where
-  pub begun : begin_result (length draft.memory.now) draft.person ≡ Ok tt
+  pub grown : Grown draft draft.state
   pub some : 0 < length draft.state
-  pub added : every (length draft.state) (added_at draft.state) ≡ Ok tt
 
 -- a number at an offset is below its limit
 abbrev pub below : ℕ → ℕ → ℕ → Result (Unit {0}) MessageFault
