@@ -1,5 +1,5 @@
--- Posts that are apart: one more that is new keeps them apart, and they pass the check that they are.
-use Rattle.std.proofs.Common.{◌≡◌, ℕ, ◌<◌, ◌≤◌, not, List, [], ◌∷◌, ◌++◌, length, get_or, take, Ok, ap, ◌∙◌, inl, inr, arith, length-append}
+-- Posts that are apart: one more that is new keeps them apart, and they are apart exactly when they pass the check that they are.
+use Rattle.std.proofs.Common.{◌≡◌, ℕ, ◌<◌, ◌≤◌, false, not, List, [], ◌∷◌, ◌++◌, length, get_or, take, Ok, sym, ap, ◌∙◌, subst, inl, inr, arith, length-append}
 use Rattle.std.proofs.lemmas.List.{get_or_append_left, get_or_at, get_or-take, length-take, length-take-le}
 use Rattle.std.proofs.lemmas.Bool.{cases_lt, le-leb, and_from, not-true}
 use Rattle.refusals.specs.Checks.{must}
@@ -39,3 +39,18 @@ seated posts count some few all apart =
     let number = and_from _ _ (le-leb 1 (length first) (omega arith)) (le-leb (length first) 4 (omega arith)) in
     let new = λ (j : ℕ) (h : j < length first). every_of (differs (take j first) (get_or first j no_post)) (length (take j first)) (λ i l. first_differ posts count apart j i (omega arith) (omega (arith, length-take j first))) in
     passed_all (must (within 1 (length first) 4) (Field (Value 5)) ∷ apart_posts first ∷ []) (must_of _ _ number, (every_of (new_at first) (length first) new, tt))
+
+-- among posts that pass, an earlier one is not a later one
+earlier_differs : (posts : List Post) → apart_posts posts ≡ Ok tt → (i j : ℕ) → i < j → j < length posts → same_post (get_or posts i no_post) (get_or posts j no_post) ≡ false
+earlier_differs posts passed i j h l =
+    let new = every_at (new_at posts) (length posts) j l passed in
+    let size : length (take j posts) ≡ j = length-take-le j posts (omega arith) in
+    let differ = every_at (differs (take j posts) (get_or posts j no_post)) (length (take j posts)) i (omega arith) new in
+    subst (λ post. same_post post (get_or posts j no_post) ≡ false) (get_or-take j posts i no_post h) (not-true _ (must_true _ _ differ))
+
+-- the first posts pass
+pub first_apart : (posts : List Post) (count : ℕ) → count ≤ length posts → apart_posts (take count posts) ≡ Ok tt → Apart posts count
+first_apart posts count few passed i j h =
+    let size : length (take count posts) ≡ count = length-take-le count posts few in
+    rw (sym (get_or-take count posts i no_post (omega arith)), sym (get_or-take count posts j no_post h.1))
+    (earlier_differs (take count posts) passed i j h.0 (omega arith))

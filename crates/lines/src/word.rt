@@ -21,7 +21,7 @@ pub enum Word {
 }
 
 impl Word {
-    // The bytes of the word as a line spells it.
+    // The bytes of the word as a line spells it. No `Display`: a line is bytes in lent memory, and its contract says which.
     pub fn text(self) -> &'static [u8]
         ensures { result.now ≡ spelled self }
     {

@@ -23,7 +23,7 @@ last_says (check ∷ checks) last p = rw p.0 (last_says checks last p.1)
 
 lifted_passed : (r : Result (Unit {0}) FieldFault) → lifted r ≡ Ok tt → r ≡ Ok tt
 lifted_passed (Ok tt) e = refl
-lifted_passed (Err f) e = let z : ◌≡◌ {A = ℕ} 0 1 = cc in absurd (omega arith)
+lifted_passed (Err f) e = cc
 
 -- each field has passed
 pub fields_passed : (b : List ℕ) → message_result b ≡ Ok tt → Passed (field_steps b (byte_at b 3) (byte_at b 5))

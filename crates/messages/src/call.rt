@@ -5,6 +5,7 @@ ghost use Rattle.messages.specs.Calls.{kind_number, number_of, word_of};
 use crate::kind::CallKind;
 use lines::Word;
 
+// Each call has its arguments by name: `Call::Grant { person, role, branch }` is plainer than a struct of three numbers within.
 #[derive(Clone, Copy)]
 pub enum Call {
     Decide { operation: u8, piece: u16 },
@@ -47,7 +48,7 @@ impl Call {
         self.kind().into()
     }
 
-    // The word that the call's line begins with.
+    // The word that the call's line begins with. A method and no `From`: `call.word()` is what a reader would say.
     pub fn word(self) -> Word
         ensures { result ≡ word_of self }
     {

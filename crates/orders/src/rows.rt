@@ -11,7 +11,7 @@ use refusals::must;
 // The most members that an order by rows has, and the bits of a row.
 pub const MOST_ROWS: usize = 16;
 
-// An order in which bit i of a member's row is set exactly where member i is at or below it.
+// An order in which bit i of a member's row is set exactly where member i is at or below it. An array and a count: there is no heap.
 #[derive(Clone, Copy)]
 pub struct Rows {
     rows: [u16; MOST_ROWS],

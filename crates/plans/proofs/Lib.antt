@@ -1,3 +1,4 @@
 -- Lemmas that the proofs share.
 mod Filled
 pub mod PlanOrders
+pub mod Blank

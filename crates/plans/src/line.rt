@@ -18,7 +18,8 @@ pub struct Line {
 }
 
 impl Line {
-    // Tells whether both lines have the same governing and the same governed role.
+    // Tells whether both lines have the same governing and the same governed role. No derived `==`, which would compare all four
+    // fields; `(self.governing, self.governed) == (other.governing, other.governed)` is no plainer.
     pub fn same_pair(self, other: Line) -> bool
         ensures { result ≡ same_pair self other }
     {

@@ -10,10 +10,11 @@ use crate::line::Line;
 use crate::piece::Piece;
 use crate::role::Role;
 use crate::set::Set;
-use fields::{BRANCHES, LINES, PIECES, ROLES, Record, SETS};
+use fields::{BRANCHES, LINES, PIECES, ROLES, SETS};
 use orders::{Parents, ParentsFault, Rows, RowsFault};
 
-#[derive(Drop)]
+// Each list is an array with its count beside it: a plan is read into a lent place, and there is no heap.
+#[derive(Default, Drop)]
 pub struct Plan {
     pub branches: [Branch; BRANCHES],
     pub branch_count: u8,
@@ -36,21 +37,7 @@ impl Plan {
     pub fn empty() -> Plan
         ensures { result ≡ empty_plan }
     {
-        Plan {
-            branches: [Branch::default(); BRANCHES],
-            branch_count: 0,
-            roles: [Role::default(); ROLES],
-            role_count: 0,
-            principal: 0,
-            grants: [Line::default(); LINES],
-            grant_count: 0,
-            takes: [Line::default(); LINES],
-            take_count: 0,
-            sets: [Set::default(); SETS],
-            set_count: 0,
-            pieces: [Piece::default(); PIECES],
-            piece_count: 0,
-        }
+        Plan::default()
     }
 
     // The order of the branches, each under its parent.

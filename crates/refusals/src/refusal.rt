@@ -2,7 +2,8 @@
 ghost use Rattle.std.specs.Prelude.{◌≡◌};
 ghost use Rattle.refusals.specs.Place.{place_of};
 
-// The number of the refusal, the layer that refuses, and the place, whose meaning goes with the number.
+// The number of the refusal, the layer that refuses, and the place, whose meaning goes with the number. Numbers and no enums: they
+// are what is printed, as the rules give them. What is at fault is an enum (`FieldFault` and the like), and this is made from it.
 #[derive(Clone, Copy, PartialEq, Eq, Debug)]
 pub struct Refusal {
     pub number: u8,

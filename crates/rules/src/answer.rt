@@ -24,7 +24,7 @@ pub enum Accepted {
 pub type Answer = Result<Accepted, EngineFault>;
 
 impl Accepted {
-    // The two numbers that are told of it.
+    // The two numbers that are told of it. A method and no `From`: a pair of numbers is not the acceptance in another form.
     pub fn numbers(self) -> (u16, u16)
         ensures { result ≡ numbers_of self }
     {

@@ -50,8 +50,8 @@ first_missed fits (suc n) e k h = at (first_below n fits) (fits n) refl refl (fi
         → (first_below n fits ≡ None → (j : ℕ) → j < n → fits j ≡ false)
         → or_next before here n ≡ None
         → fits k ≡ false
-    at (Some m) here b f again e = let z : ◌≡◌ {A = ℕ} 0 1 = cc in absurd (omega arith)
-    at None true b f again e = let z : ◌≡◌ {A = ℕ} 0 1 = cc in absurd (omega arith)
+    at (Some m) here b f again e = cc
+    at None true b f again e = cc
     at None false b f again e =
         elim (cases_lt k n) [
           | inl l ↦ again b k l
@@ -60,7 +60,7 @@ first_missed fits (suc n) e k h = at (first_below n fits) (fits n) refl refl (fi
 
 -- what is found fits, and nothing before it does
 pub first_found : (fits : ℕ → Bool) (n k : ℕ) → first_below n fits ≡ Some k → (k < n) × (fits k ≡ true) × ((j : ℕ) → j < k → fits j ≡ false)
-first_found fits zero k e = let z : ◌≡◌ {A = ℕ} 0 1 = cc in absurd (omega arith)
+first_found fits zero k e = cc
 first_found fits (suc n) k e = at (first_below n fits) (fits n) refl refl (first_found fits n k) e
   where
     at :
@@ -76,7 +76,7 @@ first_found fits (suc n) k e = at (first_below n fits) (fits n) refl refl (first
     at None true b h again e =
         let same : n ≡ k = cc in
         subst (λ m. (m < suc n) × (fits m ≡ true) × ((j : ℕ) → j < m → fits j ≡ false)) same (omega arith, h, first_missed fits n b)
-    at None false b h again e = let z : ◌≡◌ {A = ℕ} 0 1 = cc in absurd (omega arith)
+    at None false b h again e = cc
 
 -- something is found exactly where some number fits
 pub first_any : (fits : ℕ → Bool) (n : ℕ) → is_some (first_below n fits) ≡ any_below n fits
