@@ -1,4 +1,5 @@
-// Numbers in bytes. A read past the end gives 0: whether a field fits is a check of its own.
+// Numbers in bytes. A read past the end gives 0: whether a field fits is a check of its own. The bytes and the offset stay two parameters:
+// the bytes are the same and the offset another at each call, so that a pair would be made anew each time.
 ghost use Rattle.std.specs.Prelude.{◌≡◌, ◌<◌};
 ghost use Rattle.fields.specs.Bytes.{byte_at, two_at};
 

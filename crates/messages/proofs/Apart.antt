@@ -1,9 +1,9 @@
 -- Posts beside each other: a look at all earlier ones at once, and posts that were read from bytes.
 use Rattle.std.proofs.Common.{◌≡◌, ℕ, zero, suc, ◌<◌, ◌≤◌, Bool, true, false, not, ◌||◌, List, length, get_or, [], ◌∷◌, take, map, Ok, Result, sym, refl, ap, ◌∙◌, subst, add-one, arith}
-use Rattle.std.specs.List.{list_any, enumerate_from, range_with_len}
-use Rattle.std.proofs.lemmas.List.FromFn.{get_or-enumerate_from, length-enumerate_from, get_or-map-range_with_len, length-map-range_with_len}
+use Rattle.std.specs.List.{list_any, range_with_len}
+use Rattle.std.proofs.lemmas.List.FromFn.{get_or-map-range_with_len, length-map-range_with_len}
 use Rattle.std.proofs.lemmas.List.Folds.{list_any_more}
-use Rattle.std.proofs.lemmas.List.{get_or_default, get_or-take, length-take, length-take-le, take_all, take-take}
+use Rattle.std.proofs.lemmas.List.{get_or-take, length-take-le, take_all}
 use Rattle.refusals.specs.Checks.{must, then, in_order, every}
 use Rattle.fields.specs.Bytes.{byte_at}
 use Rattle.fields.specs.Records.{filled}
@@ -35,21 +35,11 @@ new_post_is before post =
     row (λ earlier. same_post earlier post) before no_post (Twice (length before)) (length before) (omega arith)
     ∙ ap (λ xs. must (not (list_any (λ earlier. same_post earlier post) xs)) (Twice (length before))) (take_all (length before) before (omega arith))
 
--- a turn through the first posts: the place and the post say whether the post is new
-pub turn_says : (all : List Post) (count n place : ℕ) (post : Post) → (n < length (enumerate_from 0 (take count all))) × ((place, post) ≡ get_or (enumerate_from 0 (take count all)) n (place, post)) → (n < length (take count all)) × (new_at (take count all) n ≡ must (not (list_any (λ earlier. same_post earlier post) (take place all))) (Twice place))
-turn_says all count n place post turn =
-    let first = take count all in
-    let few : n < length first = omega (arith, turn.0, length-enumerate_from 0 first) in
-    let short : length first ≤ count = omega (arith, length-take count all) in
-    let here = turn.1 ∙ get_or-enumerate_from 0 first n (place, post) few in
-    let place_is : place ≡ n = ap (λ p. p.0) here ∙ omega arith in
-    let post_is : get_or first n no_post ≡ post = get_or_default first n no_post post few ∙ sym (ap (λ p. p.1) here) in
-    let size : length (take n first) ≡ n = length-take-le n first (omega arith) in (
-      few,
-      new_post_is (take n first) (get_or first n no_post)
-          ∙ (λ i. must (not (list_any (λ earlier. same_post earlier (post_is i)) (take-take n count all (omega arith) i))) (Twice (size i)))
-          ∙ (λ i. must (not (list_any (λ earlier. same_post earlier post) (take (sym place_is i) all))) (Twice (sym place_is i))),
-    )
+-- the post with a place is new where none of those before it is the same
+pub looks_back : (posts : List Post) (n : ℕ) → n < length posts → new_at posts n ≡ must (not (list_any (λ earlier. same_post earlier (get_or posts n no_post)) (take n posts))) (Twice n)
+looks_back posts n h =
+    new_post_is (take n posts) (get_or posts n no_post)
+    ∙ ap (λ k. must (not (list_any (λ earlier. same_post earlier (get_or posts n no_post)) (take n posts))) (Twice k)) (length-take-le n posts (omega arith))
 
 -- two rows of checks that agree say the same
 every_same : {F : Type 0} (f g : ℕ → Result (Unit {0}) F) (n : ℕ) → ((k : ℕ) → k < n → f k ≡ g k) → every n f ≡ every n g

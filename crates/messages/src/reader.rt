@@ -1,5 +1,5 @@
 // Reads a message from bytes, or says the first thing that is wrong with them.
-ghost use Rattle.std.specs.Prelude.{◌≡◌, IfOk, MatchResult, OnOk};
+ghost use Rattle.std.specs.Prelude.{◌≡◌, ◌≤◌, IfOk, MatchResult, OnOk};
 ghost use Rattle.refusals.specs.Checks.{in_order, verdict};
 ghost use Rattle.fields.specs.Bytes.{byte_at};
 ghost use Rattle.fields.specs.Fields.{field_checked};
@@ -35,6 +35,7 @@ fn check_kind(bytes: &[u8]) -> Result<CallKind, FieldFault>
 fn check_fields(bytes: &[u8], count: u8) -> Result<CallKind, FieldFault>
     ensures answer { verdict result ≡ in_order (field_steps bytes.now (byte_at bytes.now 3) count) }
     ensures kind { IfOk result (λ kind. kind_number kind ≡ byte_at bytes.now 3) }
+    ensures few { OnOk result (count ≤ 4) }
 {
     header(bytes, BODY)?;
     let kind = check_kind(bytes)?;
@@ -61,7 +62,7 @@ fn check_all(bytes: &[u8]) -> Result<CallKind, MessageFault>
 {
     let count = byte(bytes, COUNT_AT);
     let kind = check_fields(bytes, count)?;
-    check_apart(&posts_in(bytes, count), count)?;
+    check_apart(&posts_in(bytes, count)[..count as usize])?;
     Ok(kind)
 }
 

@@ -38,7 +38,8 @@ impl Accepted {
     }
 }
 
-// The three numbers that are told of an answer: 0 and two of the acceptance, or those of the refusal.
+// The three numbers that are told of an answer: 0 and two of the acceptance, or those of the refusal. No `From`, which an alias of
+// `Result` cannot have here.
 pub fn told(answer: Answer) -> [u16; 3]
     ensures { result ≡ told_of answer }
 {
