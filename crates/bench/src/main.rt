@@ -7,7 +7,7 @@ mod framing;
 mod showing;
 
 use framing::{ends_the_run, wanted};
-use lines::{LINE, Word, write_refusal};
+use lines::{Word, line_of_refusal};
 use messages::{MESSAGE, Message};
 use plans::Plan;
 use refusals::Refusal;
@@ -17,13 +17,6 @@ use std::{fs, io};
 
 // The bytes before a message's body.
 const HEADER: usize = 3;
-
-// Prints the line of a word and a refusal.
-fn tell<W: Write>(out: &mut W, word: Word, refusal: Refusal) -> io::Result<()> {
-    let mut line = [0; LINE];
-    let end = write_refusal(word, refusal, &mut line);
-    out.write_all(&line[..end])
-}
 
 // Reads until the memory is full or the input has ended, and says how many bytes were read. Memory and not a `Vec` that grows by
 // `take(n).read_to_end(..)`: of that nothing is proved about how many bytes came.
@@ -62,7 +55,7 @@ fn take_message<W: Write>(bytes: &[u8], message: &mut Message, out: &mut W) -> i
             Ok(true)
         }
         Err(fault) => {
-            tell(out, Word::Unread, Refusal::from(fault))?;
+            out.write_all(&line_of_refusal(Word::Unread, Refusal::from(fault)))?;
             Ok(!ends_the_run(fault))
         }
     }
@@ -103,7 +96,7 @@ fn run(rt: &HostRuntime) -> io::Result<()> {
             show_plan(&plan, &mut out)?;
             take_messages(&mut BufReader::new(rt.alloc(), rt.stdin())?, &mut out)?;
         }
-        Err(fault) => tell(&mut out, Word::Plan, Refusal::from(fault))?,
+        Err(fault) => out.write_all(&line_of_refusal(Word::Plan, Refusal::from(fault)))?,
     }
     out.flush()
 }

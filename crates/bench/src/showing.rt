@@ -1,4 +1,4 @@
-// What was read, in words.
+// What was read, in words, line by line to a writer. A `Display` for each of the three would be three types more, each used once.
 use messages::{Call, Message, Sitting};
 use plans::Plan;
 use std::io::Write;

@@ -1,4 +1,4 @@
-// Bytes written in hexadecimal.
+// Bytes written in hexadecimal, in groups that may be repeated. Not by the kit's `hex`: what this program says of a wrong group stays.
 ghost use Rattle.std.specs.Prelude.{◌<◌, IfOk};
 
 use anyhow::{Context, anyhow};

@@ -8,7 +8,7 @@ mod hexadecimal;
 
 use anyhow::{Context, anyhow};
 use hexadecimal::bytes_of;
-use lines::{LINE, Word, write_refusal};
+use lines::{Word, line_of_refusal};
 use plans::Plan;
 use refusals::Refusal;
 use std::alloc::Global;
@@ -17,12 +17,10 @@ use std::io::{BufRead, BufReader, BufWriter, Write};
 
 // Prints the line of a refusal under the word, or that the bytes are accepted.
 fn tell<W: Write>(word: Word, refused: Option<Refusal>, out: &mut W) -> io::Result<()> {
-    let Some(refusal) = refused else {
-        return out.write_all(b"accepted\n");
-    };
-    let mut line = [0; LINE];
-    let end = write_refusal(word, refusal, &mut line);
-    out.write_all(&line[..end])
+    match refused {
+        Some(refusal) => out.write_all(&line_of_refusal(word, refusal)),
+        None => out.write_all(b"accepted\n"),
+    }
 }
 
 // Answers one line of the input.

@@ -1,5 +1,5 @@
 // Numbers in bytes. A read past the end gives 0: whether a field fits is a check of its own. The bytes and the offset stay two parameters:
-// the bytes are the same and the offset another at each call, so that a pair would be made anew each time.
+// `byte(bytes, at + 1)` is plainer than `Place { bytes, at: at + 1 }.byte()`.
 ghost use Rattle.std.specs.Prelude.{◌≡◌, ◌<◌};
 ghost use Rattle.fields.specs.Bytes.{byte_at, two_at};
 

@@ -1,4 +1,4 @@
-// Records of one kind that stand one behind the other, and the two loops that go through them.
+// Records of one kind that stand one behind the other, and how all of them are checked and read.
 ghost use Rattle.std.specs.Prelude.{◌≡◌, ℕ, ◌+◌, ◌*◌, cond, List, Result, nat_lt};
 ghost use Rattle.refusals.specs.Checks.{every};
 ghost use Rattle.fields.specs.declared.fault.FieldFault.{FieldFault as Fault};
@@ -43,7 +43,8 @@ pub fn offset<T: Record>(first: u16, number: u16) -> u32
     first as u32 + T::WIDTH as u32 * number as u32
 }
 
-// Checks the records of a list, the first of them at `first`.
+// Checks the records of a list, the first of them at `first`. (`first` and `count` stay two parameters here and in the next: a struct of
+// both would be made for the call, as `check_list::<Post>(bytes, (), List { first: POSTS_AT, count })`.)
 pub fn check_list<T: Record>(
     bytes: &[u8],
     scope: T::Scope,

@@ -34,14 +34,14 @@ fn rows_of(items: usize, branches: u8) -> u8
     (items / PERSONS as usize).min(branches as usize) as u8
 }
 
-// Tells whether the cell of `other` posts somebody else to a posting's role.
+// Tells whether the cell is of another person than the posting, and posts that person to the same role.
 fn is_other(other: usize, cell: u16, posting: Posting) -> bool
     ensures { result ≡ (not (other == posting.person) && has_bit cell posting.role) }
 {
     other != posting.person as usize && has_bit(cell, posting.role)
 }
 
-// How many persons of a row other than a posting's are posted to its role.
+// How many others of a row are posted to the posting's role.
 fn others_in(row: &[u16], posting: Posting) -> usize
     ensures { result ≡ count_below (length row.now) (λ x. not (x == posting.person) && has_bit (slice_index row.now x) posting.role) }
 {

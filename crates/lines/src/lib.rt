@@ -4,5 +4,5 @@
 mod line;
 mod word;
 
-pub use line::{LINE, write, write_refusal};
+pub use line::{LINE, line_of_refusal, write};
 pub use word::Word;

@@ -5,6 +5,7 @@ ghost use Rattle.lines.specs.Line.{line_of, refusal_line};
 ghost use Rattle.std.proofs.Math.Seq.{paste};
 
 use crate::word::Word;
+use arrayvec::ArrayVec;
 use itoa::Buffer;
 use refusals::Refusal;
 
@@ -33,8 +34,8 @@ fn lay_number(line: &mut [u8], at: usize, number: u16) -> usize
     lay(line, digits_at, Buffer::new().format(number).as_bytes())
 }
 
-// Writes the line of a message from the start of the memory, which the caller lends, and says how many bytes it has; the bytes behind it
-// stay.
+// Writes the line of a message from the start of the memory, and says how many bytes it has; the bytes behind it stay. The memory is the
+// caller's, who may write many lines in one place.
 pub fn write(word: Word, first: u16, second: u16, third: u16, line: &mut [u8; LINE]) -> usize
     ensures length { result ≡ length (line_of word first second third) }
     ensures bytes { line.new ≡ line_of word first second third ++ drop (length (line_of word first second third)) line.old }
@@ -47,17 +48,19 @@ pub fn write(word: Word, first: u16, second: u16, third: u16, line: &mut [u8; LI
     lay(line, after_third, b"\n")
 }
 
-// Writes the line of a refusal from the start of the memory: the word, and then the refusal's number, layer and place.
-pub fn write_refusal(word: Word, refusal: Refusal, line: &mut [u8; LINE]) -> usize
-    ensures length { result ≡ length (refusal_line word refusal) }
-    ensures bytes { line.new ≡ refusal_line word refusal ++ drop (length (refusal_line word refusal)) line.old }
-    ensures fits { result ≤ 29 }
+// The line of a refusal: the word, and then the refusal's number, layer and place.
+pub fn line_of_refusal(word: Word, refusal: Refusal) -> ArrayVec<u8, LINE>
+    ensures { result.items ≡ refusal_line word refusal }
 {
-    write(
+    let mut memory = [0; LINE];
+    let end = write(
         word,
         refusal.number as u16,
         refusal.layer as u16,
         refusal.place,
-        line,
-    )
+        &mut memory,
+    );
+    let mut line = ArrayVec::new();
+    line.try_extend_from_slice(&memory[..end]).unwrap();
+    line
 }

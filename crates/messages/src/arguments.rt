@@ -28,7 +28,7 @@ pub(crate) fn width(kind: CallKind) -> u8
     }
 }
 
-// A piece stands in the two bytes at the offset.
+// A piece stands in the two bytes at the offset: the one number that `check_below`, of a byte, does not reach.
 fn check_piece(bytes: &[u8], at: usize) -> Result<(), FieldFault>
     ensures { result ≡ piece_checked bytes.now at }
 {

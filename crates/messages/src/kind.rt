@@ -8,7 +8,7 @@ ghost use Rattle.messages.specs.Numbers.{within};
 use crate::limits::CALL_AT;
 use fields::FieldFault;
 
-#[derive(Clone, Copy, PartialEq, Eq)]
+#[derive(Clone, Copy)]
 pub(crate) enum CallKind {
     Decide = 1,
     Grant = 2,

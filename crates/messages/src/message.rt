@@ -15,7 +15,8 @@ pub struct Message {
     pub call: Call,
 }
 
-// A place to read a message into: person 0 sits under one post. No `Default`: for a sitting, which has ghost fields, none is derived.
+// A place to read a message into: person 0 sits under one post. No `Default`: where there are ghost
+// fields none is derived, and by hand it would be this function.
 pub fn blank() -> Message
     ensures person { result.sitting.person ≡ 0 }
     ensures count { result.sitting.count ≡ 1 }

@@ -23,7 +23,7 @@ use fields::{
 };
 
 // The kind of call that stands in its field.
-fn check_kind(bytes: &[u8]) -> Result<CallKind, FieldFault>
+fn check_call(bytes: &[u8]) -> Result<CallKind, FieldFault>
     ensures answer { verdict result ≡ field_checked bytes.now 3 1 (within 1 (byte_at bytes.now 3) 11) }
     ensures kind { IfOk result (λ kind. kind_number kind ≡ byte_at bytes.now 3) }
 {
@@ -38,7 +38,7 @@ fn check_fields(bytes: &[u8], count: u8) -> Result<CallKind, FieldFault>
     ensures few { OnOk result (count ≤ 4) }
 {
     header(bytes, BODY)?;
-    let kind = check_kind(bytes)?;
+    let kind = check_call(bytes)?;
     check_below(bytes, PERSON_AT, PERSONS as u16)?;
     field(bytes, COUNT_AT, 1, (1..=POSTS as u8).contains(&count))?;
     check_list::<Post>(bytes, (), POSTS_AT, count as u16)?;
@@ -48,22 +48,17 @@ fn check_fields(bytes: &[u8], count: u8) -> Result<CallKind, FieldFault>
     Ok(kind)
 }
 
-// The posts of a message that has so many, and the empty post behind the last.
-fn posts_in(bytes: &[u8], count: u8) -> [Post; POSTS]
-    ensures { result ≡ filled 4 count no_post (post_in bytes.now) }
-{
-    read_list(bytes, POSTS_AT, count as u16)
-}
-
-// All checks of a message, in the order of the format; says the kind of call.
-fn check_all(bytes: &[u8]) -> Result<CallKind, MessageFault>
+// All checks of a message, in the order of the format; gives the kind of call and the posts, with the empty post behind the last.
+fn check_all(bytes: &[u8]) -> Result<(CallKind, [Post; POSTS]), MessageFault>
     ensures answer { verdict result ≡ message_result bytes.now }
-    ensures kind { IfOk result (λ kind. kind_number kind ≡ byte_at bytes.now 3) }
+    ensures kind { IfOk result (λ it. kind_number it.0 ≡ byte_at bytes.now 3) }
+    ensures posts { IfOk result (λ it. it.1 ≡ filled 4 (byte_at bytes.now 5) no_post (post_in bytes.now)) }
 {
     let count = byte(bytes, COUNT_AT);
     let kind = check_fields(bytes, count)?;
-    check_apart(&posts_in(bytes, count)[..count as usize])?;
-    Ok(kind)
+    let posts = read_list(bytes, POSTS_AT, count as u16);
+    check_apart(&posts[..count as usize])?;
+    Ok((kind, posts))
 }
 
 // Says the first thing that is wrong with the message.
@@ -80,13 +75,13 @@ pub fn read(bytes: &[u8], into: &mut Message) -> Result<(), MessageFault>
     ensures leaves { MatchResult result (λ _. Reads bytes.now into.new) (λ _. into.new ≡ into.old) }
     ensures written_back { OnOk result (written (said into.new) ≡ bytes.now) }
 {
-    let kind = check_all(bytes)?;
+    let (kind, posts) = check_all(bytes)?;
     let count = byte(bytes, COUNT_AT);
     *into = Message {
         sitting: Sitting {
             person: byte(bytes, PERSON_AT),
             count,
-            posts: posts_in(bytes, count),
+            posts,
         },
         call: read_call(bytes, kind, offset::<Post>(POSTS_AT, count as u16)),
     };

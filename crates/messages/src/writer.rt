@@ -18,7 +18,7 @@ use arrayvec::ArrayVec;
 use fields::FieldFault;
 use refusals::must;
 
-// Adds the posts of the sitting to the bytes before them, behind which there is room for four.
+// Adds the posts of the sitting.
 fn add_posts(bytes: &mut ArrayVec<u8, MESSAGE>, sitting: &Sitting)
     requires { length bytes.old.items ≤ 6 }
     ensures { bytes.new.items ≡ bytes.old.items ++ flat_map post_bytes (take sitting.now.count sitting.now.posts) }
@@ -29,7 +29,7 @@ fn add_posts(bytes: &mut ArrayVec<u8, MESSAGE>, sitting: &Sitting)
     }
 }
 
-// Adds the arguments of the call to the bytes before them, behind which there is room for three.
+// Adds the arguments of the call.
 fn add_arguments(bytes: &mut ArrayVec<u8, MESSAGE>, call: Call)
     requires { length bytes.old.items + 3 ≤ 17 }
     ensures { bytes.new.items ≡ bytes.old.items ++ arguments_of call }

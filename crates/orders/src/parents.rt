@@ -11,7 +11,8 @@ use refusals::must;
 pub const MOST_PARENTS: usize = 64;
 
 // An order in which each member but 0 names a lower-numbered parent, and stands below it and all above it.
-// Member 0 is the top, and its entry is not looked at. An array and a count, and parents by number: there is no heap.
+// Member 0 is the top, and its entry is not looked at. An array and a count, and no vector or tree of boxes: an order is copied, and there
+// is no heap.
 #[derive(Clone, Copy)]
 pub struct Parents {
     parents: [u8; MOST_PARENTS],

@@ -11,7 +11,8 @@ use refusals::must;
 // The most members that an order by rows has, and the bits of a row.
 pub const MOST_ROWS: usize = 16;
 
-// An order in which bit i of a member's row is set exactly where member i is at or below it. An array and a count: there is no heap.
+// An order in which bit i of a member's row is set exactly where member i is at or below it. An array and a count, and
+// no vector: an order is copied.
 #[derive(Clone, Copy)]
 pub struct Rows {
     rows: [u16; MOST_ROWS],
@@ -66,15 +67,16 @@ impl Order for Rows {
     }
 }
 
-// Gives a member's row; past the last row, an empty one.
+// Gives a member's row; past the last row, an empty one. The library's chain under the name of what it gives, as a byte and a share have
+// it elsewhere: a generic function for the three would be this chain again.
 fn row_of(rows: &[u16; MOST_ROWS], member: u8) -> u16
     ensures { result ≡ slice_index rows.now member }
 {
     rows.get(member as usize).copied().unwrap_or(0)
 }
 
-// Tells whether the row of member `q` names `q`, none but members, and stands over the rows that it names.
-// (Rows and count stay two parameters: a struct of both would be longer than what it saves in this function and the next.)
+// Tells whether the row of member `q` names `q`, none but members, and stands over the rows that it names. Rows and count stay two
+// parameters: `row_stands(&rows, count, q)` is plainer than `Members { rows: &rows, count }.row_stands(q)` with a struct for it.
 fn row_stands(rows: &[u16; MOST_ROWS], count: u8, q: u8) -> bool
     ensures { result ≡ row_stands 16 rows.now count q }
 {

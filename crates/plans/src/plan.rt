@@ -13,7 +13,7 @@ use crate::set::Set;
 use fields::{BRANCHES, LINES, PIECES, ROLES, SETS};
 use orders::{Parents, ParentsFault, Rows, RowsFault};
 
-// Each list is an array with its count beside it: a plan is read into a lent place, and there is no heap.
+// Each list is an array with its count beside it, as plans are to be (docs/DECISIONS.md, "Forms"): fixed memory, written as a whole.
 #[derive(Default, Drop)]
 pub struct Plan {
     pub branches: [Branch; BRANCHES],

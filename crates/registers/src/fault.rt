@@ -22,10 +22,10 @@ pub enum RegisterFault {
     Unfit(usize),
 }
 
+// The three numbers that are told of the fault.
 impl From<RegisterFault> for Refusal {
     ghost from_gives = { λ fault r. r ≡ register_refusal fault };
 
-    // The three numbers that are told of the fault, all at the register's layer.
     fn from(fault: RegisterFault) -> Refusal {
         let (number, place) = match fault {
             RegisterFault::NoPerson => (4, 0),

@@ -26,7 +26,8 @@ pub trait Register {
     fn share_of(&self, branch: u8) -> Option<u16>
         ensures { result ≡ share_told (branches self.now) (share self.now) branch };
 
-    // Tells to which roles a person is posted at a branch: bit i stands for role i.
+    // Tells to which roles a person is posted at a branch: bit i stands for role i. Person and branch stay two parameters: a posting without
+    // its role is nothing that has a name.
     fn roles_of(&self, person: u8, branch: u8) -> u16
         ensures { (q : ℕ) → has_bit result q ≡ posted self.now person q branch };
 

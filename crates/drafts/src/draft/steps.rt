@@ -99,8 +99,8 @@ impl<'m> Draft<'m, Filled> {
 }
 
 impl<'m> Draft<'m, Finished> {
-    // The message's bytes. The length is held to the memory's, since no rule of the type can tie them: one over a `&mut` is not covered
-    // inside a `Result`.
+    // The message's bytes. That the memory is long enough is seen here and is no invariant: the checker covers none over a `&mut` inside a
+    // `Result`.
     pub fn bytes(&self) -> &[u8]
         ensures { result.now ≡ take self.now.state.length self.now.memory.now }
     {

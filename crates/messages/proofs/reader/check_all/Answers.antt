@@ -1,5 +1,8 @@
 -- The checks of the fields, and then of the posts beside each other.
-use Rattle.std.proofs.Common.{◌≡◌, Ok, sym, ◌∙◌, rules}
+use Rattle.std.proofs.Common.{◌≡◌, Ok, sym, ap, ◌∙◌, rules}
+use Rattle.fields.specs.Records.{filled}
+use Rattle.messages.specs.Posts.{no_post}
+use Rattle.messages.specs.Said.{post_in}
 use Rattle.messages.specs.Reading.{message_result}
 use Rattle.messages.proofs.Apart.{posts_decide}
 use Rattle.messages.proofs.reader.check_all.Goals as goal
@@ -17,3 +20,6 @@ pub returns-clause-answer : goal.returns-clause-answer
 returns-clause-answer c =
     let passed : message_result c.args.bytes.now ≡ Ok tt = posts_decide c.args.bytes.now c.byte-count.result c.byte-count.ensures (search rules) ∙ search rules in
     sym passed
+
+pub returns-clause-posts : goal.returns-clause-posts
+returns-clause-posts c = c.read_list-posts.ensures ∙ ap (λ count. filled 4 count no_post (post_in c.args.bytes.now)) c.byte-count.ensures
