@@ -5,6 +5,8 @@ use Rattle.fields.specs.Bytes.{byte_at}
 use Rattle.fields.specs.Fields.{header_checked, field_checked, end_checked}
 use Rattle.fields.specs.Records.{filled}
 use Rattle.fields.specs.declared.fault.FieldFault.{FieldFault}
+use Rattle.messages.specs.Calls.{kind_number}
+use Rattle.messages.specs.declared.kind.CallKind.{CallKind}
 use Rattle.messages.specs.Arguments.{arguments_checked, arguments_width, call_at}
 use Rattle.messages.specs.Numbers.{within, person_checked}
 use Rattle.messages.specs.Posts.{no_post, post_checked, same_post}
@@ -12,6 +14,10 @@ use Rattle.messages.specs.Said.{post_in}
 use Rattle.messages.specs.declared.fault.MessageFault.{MessageFault}
 use Rattle.messages.specs.declared.fault.MessageFault.TheVariants.{Field, Twice}
 use Rattle.messages.specs.declared.message.Message.{Message}
+
+-- the kind of call that the bytes name, in the field of the call
+abbrev pub IsCallOf : List ℕ → CallKind → Type 0
+IsCallOf bytes kind = kind_number kind ≡ byte_at bytes 3
 
 -- header, call, person, number of posts, posts, arguments, and nothing behind them
 abbrev pub field_steps : List ℕ → ℕ → ℕ → List (Result (Unit {0}) FieldFault)

@@ -4,9 +4,8 @@ ghost use Rattle.refusals.specs.Checks.{in_order, verdict};
 ghost use Rattle.fields.specs.Bytes.{byte_at};
 ghost use Rattle.fields.specs.Fields.{field_checked};
 ghost use Rattle.fields.specs.Records.{filled};
-ghost use Rattle.messages.specs.Calls.{kind_number};
 ghost use Rattle.messages.specs.Numbers.{within};
-ghost use Rattle.messages.specs.Reading.{field_steps, message_result, Reads};
+ghost use Rattle.messages.specs.Reading.{IsCallOf, field_steps, message_result, Reads};
 ghost use Rattle.messages.specs.Posts.{no_post};
 ghost use Rattle.messages.specs.Said.{post_in, said, written};
 
@@ -25,7 +24,7 @@ use fields::{
 // The kind of call that stands in its field.
 fn check_call(bytes: &[u8]) -> Result<CallKind, FieldFault>
     ensures answer { verdict result ≡ field_checked bytes.now 3 1 (within 1 (byte_at bytes.now 3) 11) }
-    ensures kind { IfOk result (λ kind. kind_number kind ≡ byte_at bytes.now 3) }
+    ensures kind { IfOk result (IsCallOf bytes.now) }
 {
     field(bytes, CALL_AT, 1, true)?;
     CallKind::try_from(byte(bytes, CALL_AT))
@@ -34,7 +33,7 @@ fn check_call(bytes: &[u8]) -> Result<CallKind, FieldFault>
 // Checks each field of a message that has so many posts, and that nothing stands behind the last; says the kind of call.
 fn check_fields(bytes: &[u8], count: u8) -> Result<CallKind, FieldFault>
     ensures answer { verdict result ≡ in_order (field_steps bytes.now (byte_at bytes.now 3) count) }
-    ensures kind { IfOk result (λ kind. kind_number kind ≡ byte_at bytes.now 3) }
+    ensures kind { IfOk result (IsCallOf bytes.now) }
     ensures few { OnOk result (count ≤ 4) }
 {
     header(bytes, BODY)?;
@@ -51,7 +50,7 @@ fn check_fields(bytes: &[u8], count: u8) -> Result<CallKind, FieldFault>
 // All checks of a message, in the order of the format; gives the kind of call and the posts, with the empty post behind the last.
 fn check_all(bytes: &[u8]) -> Result<(CallKind, [Post; POSTS]), MessageFault>
     ensures answer { verdict result ≡ message_result bytes.now }
-    ensures kind { IfOk result (λ it. kind_number it.0 ≡ byte_at bytes.now 3) }
+    ensures kind { IfOk result (λ it. IsCallOf bytes.now it.0) }
     ensures posts { IfOk result (λ it. it.1 ≡ filled 4 (byte_at bytes.now 5) no_post (post_in bytes.now)) }
 {
     let count = byte(bytes, COUNT_AT);
