@@ -124,3 +124,7 @@ module _ (posted : Postings) (branches : ℕ) (share : ℕ → ℕ) (person role
   -- a take of what is there
   pub take_passes : posted person role branch ≡ true → take_checked posted branches person role branch ≡ Ok tt
   take_passes there = ap (λ n. then n (then (must (posted person role branch) (NotPosted branch)) (Ok tt))) numbers ∙ ap (λ b. then (must b (NotPosted branch)) (Ok tt)) there
+
+  -- a take of what is not
+  pub take_missing : posted person role branch ≡ false → take_checked posted branches person role branch ≡ Err (NotPosted branch)
+  take_missing absent = ap (λ n. then n (then (must (posted person role branch) (NotPosted branch)) (Ok tt))) numbers ∙ ap (λ b. then (must b (NotPosted branch)) (Ok tt)) absent

@@ -5,7 +5,7 @@ use Rattle.registers.specs.Meaning.{Postings}
 use Rattle.registers.specs.declared.fault.RegisterFault.{RegisterFault}
 use Rattle.registers.specs.declared.fault.RegisterFault.TheVariants.{Unfit}
 use Rattle.registers.specs.declared.posting.Posting.{Posting}
-use Rattle.parts.specs.Part.{held}
+use Rattle.roll.specs.Part.{Kept, among}
 use Rattle.search.specs.Searches.{sum_below}
 
 -- the shares of the branches before one, together
@@ -26,8 +26,11 @@ roll_part records shares branches branch = take (roll_share (length records) sha
 
 -- who is posted: whom the branch's own part says
 abbrev pub roll_posted : List (Option Posting) → List ℕ → ℕ → Postings
-roll_posted records shares branches person role branch =
-    nat_lt branch branches && held (roll_part records shares branches branch) (length (roll_part records shares branches branch)) person role branch
+roll_posted records shares branches person role branch = among (roll_part records shares branches branch) (length (roll_part records shares branches branch)) person role branch
+
+-- what every roll keeps: each branch's part has postings at the branch alone, of persons and to roles that there are, and none twice
+abbrev pub KeptParts : List (Option Posting) → List ℕ → ℕ → Type 0
+KeptParts records shares branches = (b : ℕ) → Kept (roll_part records shares branches b) b
 
 -- a share for each branch, branch 0 with room for one at least and none over 1024, that go into so many records together
 abbrev pub shares_fit : ℕ → List ℕ → ℕ → Bool

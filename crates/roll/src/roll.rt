@@ -2,12 +2,14 @@
 ghost use Rattle.std.specs.Prelude.{◌≡◌, ℕ, ◌<◌, false, length, replicate, None, Ok, nat_le, slice_index};
 ghost use Rattle.refusals.specs.Checks.{all};
 ghost use Rattle.std.proofs.Common.{rules, tests};
-ghost use Rattle.roll.specs.Roll.{roll_checked, roll_part, roll_posted, roll_share, roll_start, shares_before};
+ghost use Rattle.roll.specs.Inside.{roll_inside};
+ghost use Rattle.roll.specs.Roll.{KeptParts, roll_checked, roll_part, roll_posted, roll_share, roll_start, shares_before};
 
 use fields::PERSONS;
-use parts::{holds, others_in, remove_from, roles_in, spare_in};
+use crate::part::{free_in, holds, is_other, roles_in};
 use refusals::must;
 use registers::{Posting, Register, RegisterFault};
+use search::first;
 
 // The most postings that a branch may have.
 const MOST: u16 = 1024;
@@ -18,6 +20,7 @@ pub struct Roll<'p, 's> {
     records: &'p mut [Option<Posting>],
     shares: &'s [u16],
     branches: u8,
+    ghost kept: { KeptParts records.now shares.now branches },
 }
 
 // The share of a branch, or 0 of one that has none.
@@ -67,7 +70,7 @@ impl<'p, 's> Roll<'p, 's> {
     }
 
     // Makes a roll in which nobody is posted; a part for which there are too few records is shorter.
-    #[tactic(auto, using(crate::proofs::RollFacts::roll_cleared, crate::proofs::RollFacts::share_whole))]
+    #[tactic(auto, using(crate::proofs::RollFacts::roll_cleared, crate::proofs::RollFacts::cleared_kept, crate::proofs::RollFacts::share_whole))]
     pub fn new(records: &'p mut [Option<Posting>], shares: &'s [u16], branches: u8) -> Roll<'p, 's>
         ensures records { result.records.now ≡ replicate (length records.old) None }
         ensures asked { (result.shares.now ≡ shares.now) × (result.branches ≡ branches) }
@@ -126,18 +129,20 @@ impl<'p, 's> Register for Roll<'p, 's> {
     }
 
     fn roles_of(&self, person: u8, branch: u8) -> u16 {
-        if person < PERSONS && branch < self.branches {
-            roles_in(self.part(branch), person, branch)
-        } else {
-            0
-        }
+        roles_in(self.part(branch), person, branch)
     }
 
+    // A loop over the records, each of which posts somebody that no other does.
     fn others(&self, posting: Posting) -> u8 {
-        if posting.check(self.branches).is_err() {
-            return 0;
+        let mut count = 0;
+        if posting.person < PERSONS {
+            for record in self.part(posting.branch) {
+                if is_other(*record, posting) {
+                    count += 1;
+                }
+            }
         }
-        others_in(self.part(posting.branch), posting)
+        count
     }
 
     fn put(&mut self, posting: Posting) -> Result<(), RegisterFault> {
@@ -146,9 +151,7 @@ impl<'p, 's> Register for Roll<'p, 's> {
             !holds(self.part(posting.branch), posting),
             RegisterFault::Posted(posting.branch),
         )?;
-        let i = spare_in(self.part(posting.branch), posting.branch).ok_or(RegisterFault::Full(
-            posting.branch,
-        ))?;
+        let i = free_in(self.part(posting.branch)).ok_or(RegisterFault::Full(posting.branch))?;
         let start = self.start(posting.branch);
         self.records[start + i] = Some(posting);
         Ok(())
@@ -156,22 +159,20 @@ impl<'p, 's> Register for Roll<'p, 's> {
 
     fn take(&mut self, posting: Posting) -> Result<(), RegisterFault> {
         posting.check(self.branches)?;
-        must(
-            holds(self.part(posting.branch), posting),
-            RegisterFault::NotPosted(posting.branch),
-        )?;
+        let i = first(self.part(posting.branch), &posting).ok_or(RegisterFault::NotPosted(
+            posting.branch,
+        ))?;
         let start = self.start(posting.branch);
-        let end = start + self.room(posting.branch) as usize;
-        remove_from(&mut self.records[start..end], posting);
+        self.records[start + i] = None;
         Ok(())
     }
 
-    #[tactic(auto, using(crate::proofs::RollFacts::roll_cleared))]
+    #[tactic(auto, using(crate::proofs::RollFacts::roll_cleared, crate::proofs::RollFacts::cleared_kept))]
     fn clear(&mut self) {
         self.records.fill(None);
     }
 
-    ghost inside = { Prim.search (rules, tests) };
+    ghost inside = { λ r. roll_inside r.records.now r.shares.now r.branches r.kept };
 
     ghost shares = { Prim.search (rules, tests) };
 }

@@ -1,6 +1,6 @@
 -- The search finds a record exactly when one of the part is the posting.
 use Rattle.std.proofs.Common.{length, is_some, None, ap, ◌∙◌}
-use Rattle.parts.proofs.part.holds.Goals as goal
+use Rattle.roll.proofs.part.holds.Goals as goal
 use Rattle.search.proofs.Searches.{first_any}
 
 pub returns : goal.returns
