@@ -1,14 +1,15 @@
 -- What a part of a roll says: as a loop goes through its records, of how many postings it has, and of a record written and freed.
-use Rattle.std.proofs.Common.{◌≡◌, ℕ, zero, suc, ◌+◌, ◌<◌, Bool, true, false, cond, not, ◌&&◌, ◌||◌, eqb, ltb, List, [], ◌∷◌, ◌++◌, length, get_or, set, is_none, is_some, Some, None, Option, sym, refl, ap, ◌∙◌, subst, inl, inr, add-one, arith}
+use Rattle.std.proofs.Common.{◌≡◌, ℕ, zero, suc, ◌+◌, ◌<◌, Bool, true, false, cond, not, ◌&&◌, ◌||◌, eqb, ltb, ◌⊎◌, List, [], ◌∷◌, ◌++◌, length, get_or, set, is_none, is_some, Some, None, Option, sym, refl, ap, ◌∙◌, subst, inl, inr, add-one, arith}
 use Rattle.orders.specs.Masks.{has_bit}
 use Rattle.registers.proofs.PostingFacts.{count_less, count_raised, count_same, postings_added, postings_none, postings_same}
 use Rattle.registers.specs.Meaning.{added, is_posting, postings_at, removed, same_posting}
 use Rattle.registers.specs.declared.posting.Posting.{Posting}
 use Rattle.roll.specs.Inside.{among_some, posting_is}
 use Rattle.roll.specs.Part.{Kept, among, is_other}
-use Rattle.search.proofs.Searches.{any_at, any_fails, any_more, any_none, any_same, any_some, first_found, first_missed}
+use Rattle.search.proofs.Searches.{any_at, any_fails, any_more, any_none, any_same, any_some, first_found, first_missed, first_position}
 use Rattle.search.proofs.Sums.{sum_more, sum_none}
 use Rattle.search.specs.Searches.{count_below, first_below}
+use Rattle.std.specs.List.{position}
 use Rattle.std.proofs.Math.Bool.{or_comm}
 use Rattle.std.proofs.lemmas.List.{get_or_append_left, get_or_past, get_or_push, get_or-set_other, get_or-set_same, length_push}
 use Rattle.std.proofs.lemmas.Bool.{and_from, and_parts, and_right, both_ways, cases_Bool, cases_eq, cases_lt, eq-eqb, eqb-true, lt-ltb, ne_eqb, not-true, or_cases, or_left, or_right, true≢false}
@@ -70,13 +71,15 @@ within part k it e =
     ]
 
 -- the record that a search for a posting finds
-pub posting_found : (part : List (Option Posting)) (it : Posting) (i : ℕ) → first_below (length part) (λ k. is_posting (get_or part k None) it.person it.role it.branch) ≡ Some i → get_or part i None ≡ Some it
-posting_found part it i e = posting_is (get_or part i None) it.person it.role it.branch (first_found (λ k. is_posting (get_or part k None) it.person it.role it.branch) (length part) i e).1
+pub posting_found : (part : List (Option Posting)) (it : Posting) (i : ℕ) → first_below (length part) (λ k. is_posting (get_or part k None) it.person it.role it.branch) ≡ Some i → (i < length part) × (get_or part i None ≡ Some it)
+posting_found part it i e =
+    let found = first_found (λ k. is_posting (get_or part k None) it.person it.role it.branch) (length part) i e in
+    (found.0, posting_is (get_or part i None) it.person it.role it.branch found.1)
 
--- the free record that is found
-pub free_found : (part : List (Option Posting)) (i : ℕ) → first_below (length part) (λ k. is_none (get_or part k None)) ≡ Some i → (i < length part) × (get_or part i None ≡ None)
+-- the free record that a search finds
+pub free_found : (part : List (Option Posting)) (i : ℕ) → position is_none part ≡ Some i → (i < length part) × (get_or part i None ≡ None)
 free_found part i e =
-    let found = first_found (λ k. is_none (get_or part k None)) (length part) i e in
+    let found = first_found (λ k. is_none (get_or part k None)) (length part) i (sym (first_position is_none part None) ∙ e) in
     (found.0, free (get_or part i None) found.1)
   where
     free : (record' : Option Posting) → is_none record' ≡ true → record' ≡ None
@@ -97,10 +100,9 @@ module _ (part : List (Option Posting)) (branch : ℕ) (kept : Kept part branch)
   first_time k it here =
       elim (cases_Bool (among part k it.person it.role branch)) [
         | inl said ↦
-            let own = kept k it here in
             let before = among_some part k it.person it.role branch said in
-            let same : get_or part before.0 None ≡ Some it = before.2 ∙ ap (λ b. Some (record { person = it.person; role = it.role; branch = b })) (sym own.2) in
-            absurd (omega (arith, before.1, own.3 before.0 same))
+            let same : get_or part before.0 None ≡ Some it = before.2 ∙ ap (λ b. Some (record { person = it.person; role = it.role; branch = b })) (sym (kept.own k it here).2) in
+            absurd (omega (arith, before.1, kept.once before.0 k it same here))
         | inr none ↦ none
       ]
 
@@ -110,7 +112,7 @@ module _ (part : List (Option Posting)) (branch : ℕ) (kept : Kept part branch)
       same_tests _ _ (λ e. (and_parts (ltb y 16) _ e).1)
       (λ e.
       let found = among_some part (length part) x y branch e in
-      and_from (ltb y 16) _ (lt-ltb y 16 (kept found.0 _ found.2).1) e)
+      and_from (ltb y 16) _ (lt-ltb y 16 (kept.own found.0 _ found.2).1) e)
 
   -- one record more: a posting more, unless it is free
   more_free : (k x y : ℕ) → get_or part k None ≡ None → among part (k + 1) x y branch ≡ among part k x y branch
@@ -121,7 +123,7 @@ module _ (part : List (Option Posting)) (branch : ℕ) (kept : Kept part branch)
       among_more part k x y branch
       ∙ ap (λ found. among part k x y branch || is_posting found x y branch) here
       ∙ or_comm (among part k x y branch) (same_posting it.person it.role it.branch x y branch)
-      ∙ ap (λ b. same_posting it.person it.role b x y branch || among part k x y branch) (kept k it here).2
+      ∙ ap (λ b. same_posting it.person it.role b x y branch || among part k x y branch) (kept.own k it here).2
 
   -- there are as many postings as records that are not free
   counted : (n : ℕ) → postings_at (among part n) branch ≡ count_below n (λ k. is_some (get_or part k None))
@@ -134,16 +136,16 @@ module _ (part : List (Option Posting)) (branch : ℕ) (kept : Kept part branch)
           let none : ◌≡◌ {A = ℕ} (cond (is_some (get_or part n None)) 1 0) 0 = ap (λ found. cond (is_some found) 1 0) here in
           omega (arith, same, none, before, rw add-one at (sum_more (λ k. cond (is_some (get_or part k None)) 1 0) n))
       at (Some it) here before =
-          let own = kept n it here in
+          let own = kept.own n it here in
           let more = rw add-one at (postings_added (among part n) (among part (n + 1)) it.person it.role branch own.0 own.1 (first_time n it here) (λ x y h k. more_one n x y it here)) in
           let one : ◌≡◌ {A = ℕ} (cond (is_some (get_or part n None)) 1 0) 1 = ap (λ found. cond (is_some found) 1 0) here in
           omega (arith, more, one, before, rw add-one at (sum_more (λ k. cond (is_some (get_or part k None)) 1 0) n))
 
   -- as many as there are records where none is free, and fewer where one is
-  pub none_free : first_below (length part) (λ k. is_none (get_or part k None)) ≡ None → postings_at (among part (length part)) branch ≡ length part
+  pub none_free : position is_none part ≡ None → postings_at (among part (length part)) branch ≡ length part
   none_free none =
       counted (length part)
-      ∙ count_all _ (length part) (λ k h. used (get_or part k None) (first_missed (λ j. is_none (get_or part j None)) (length part) none k h))
+      ∙ count_all _ (length part) (λ k h. used (get_or part k None) (first_missed (λ j. is_none (get_or part j None)) (length part) (sym (first_position is_none part None) ∙ none) k h))
     where
       used : (found : Option Posting) → is_none found ≡ false → is_some found ≡ true
       used None e = absurd (true≢false e)
@@ -183,7 +185,7 @@ module _ (part : List (Option Posting)) (branch : ℕ) (kept : Kept part branch)
                 omega (
                   arith,
                   one,
-                  count_raised (λ x. not (eqb x person) && among part k x role branch) (λ x. not (eqb x person) && among part (k + 1) x role branch) 64 it.person (kept k it here).0
+                  count_raised (λ x. not (eqb x person) && among part k x role branch) (λ x. not (eqb x person) && among part (k + 1) x role branch) 64 it.person (kept.own k it here).0
                       (λ x h ne. ap (λ b. not (eqb x person) && b) (more_one k x role it here ∙ apart it x (among part k x role branch) ne))
                       (and_right (not (eqb it.person person)) _ new)
                       (ap (λ b. not (eqb it.person person) && b) (more_one k it.person role it here) ∙ themselves it (among part k it.person role branch) other),
@@ -225,27 +227,37 @@ module _ (part : List (Option Posting)) (at : ℕ) (new : Posting) (free : get_o
   here_alone absent j e = both_ways (among part (length part) new.person new.role new.branch) absent (among_at part (length part) j new.person new.role new.branch (within part j new e) e)
 
   pub written_kept : Kept part new.branch → new.person < 64 → new.role < 16 → among part (length part) new.person new.role new.branch ≡ false → Kept now' new.branch
-  written_kept kept own-person own-role absent k it e =
-      elim (cases_eq k at) [
-        | inl same ↦
-            subst (λ it'. (it'.person < 64) × (it'.role < 16) × (it'.branch ≡ new.branch) × ((j : ℕ) → get_or now' j None ≡ Some it' → j ≡ k)) (inner new it (sym (written_at k same) ∙ e))
-            (own-person, own-role, refl, λ j f. elim (cases_eq j at) [
-              | inl also ↦ also ∙ sym same
-              | inr other ↦ absurd (here_alone absent j (as_was j other ∙ f))
-            ])
-        | inr other ↦
-            let own = kept k it (as_was k other ∙ e) in
-            (own.0, own.1, own.2, λ j f. elim (cases_eq j at) [
-              | inl same ↦ absurd (here_alone absent k (as_was k other ∙ e ∙ sym f ∙ written_at j same))
-              | inr also ↦ own.3 j (as_was j also ∙ f)
-            ])
-      ]
+  written_kept kept own-person own-role absent = record { own = own; once = once }
     where
-      written_at : (j : ℕ) → j ≡ at → get_or now' j None ≡ Some new
-      written_at j same = ap (λ m. get_or now' m None) same ∙ get_or-set_same part at (Some new) None inside
+      -- a record that is not free is the one that is written, or was there
+      which : (k : ℕ) (it : Posting) → get_or now' k None ≡ Some it → ((k ≡ at) × (new ≡ it)) ⊎ (get_or part k None ≡ Some it)
+      which k it e =
+          elim (cases_eq k at) [
+            | inl same ↦ inl (same, inner new it (sym (ap (λ j. get_or now' j None) same ∙ get_or-set_same part at (Some new) None inside) ∙ e))
+            | inr other ↦ inr (sym (get_or-set_other part at k (Some new) None other) ∙ e)
+          ]
 
-      as_was : (j : ℕ) → (j ≡ at → ⊥) → get_or part j None ≡ get_or now' j None
-      as_was j other = sym (get_or-set_other part at j (Some new) None other)
+      own : (k : ℕ) (it : Posting) → get_or now' k None ≡ Some it → (it.person < 64) × (it.role < 16) × (it.branch ≡ new.branch)
+      own k it e =
+          elim (which k it e) [
+            | inl here ↦ subst (λ it'. (it'.person < 64) × (it'.role < 16) × (it'.branch ≡ new.branch)) here.1 (own-person, own-role, refl)
+            | inr was ↦ kept.own k it was
+          ]
+
+      once : (j k : ℕ) (it : Posting) → get_or now' j None ≡ Some it → get_or now' k None ≡ Some it → j ≡ k
+      once j k it f e =
+          elim (which j it f) [
+            | inl there ↦
+                elim (which k it e) [
+                  | inl here ↦ there.0 ∙ sym here.0
+                  | inr was ↦ absurd (here_alone absent k (was ∙ ap (λ it'. Some it') (sym there.1)))
+                ]
+            | inr before ↦
+                elim (which k it e) [
+                  | inl here ↦ absurd (here_alone absent j (before ∙ ap (λ it'. Some it') (sym here.1)))
+                  | inr was ↦ kept.once j k it before was
+                ]
+          ]
 
 -- the record of a posting freed, where no other is the same
 module _ (part : List (Option Posting)) (at : ℕ) (it : Posting) (here : get_or part at None ≡ Some it) (once : (j : ℕ) → get_or part j None ≡ Some it → j ≡ at) where
@@ -279,13 +291,14 @@ module _ (part : List (Option Posting)) (at : ℕ) (it : Posting) (here : get_or
       among_at rest (length part) found.0 x y z found.1 (get_or-set_other part at found.0 None None other ∙ found.2))
 
   pub freed_kept : (branch : ℕ) → Kept part branch → Kept rest branch
-  freed_kept branch kept k also e =
-      let own = kept k also (as_before k also e).1 in
-      (own.0, own.1, own.2, λ j f. own.3 j (as_before j also f).1)
+  freed_kept branch kept = record {
+    own = λ k also e. kept.own k also (as_before k also e).1;
+    once = λ j k also f e. kept.once j k also (as_before j also f).1 (as_before k also e).1;
+  }
 
 -- a part of free records has no posting
 pub none_among : (part : List (Option Posting)) (n x y z : ℕ) → ((k : ℕ) → get_or part k None ≡ None) → among part n x y z ≡ false
 none_among part n x y z free = any_fails _ n (λ k h. ap (λ it. is_posting it x y z) (free k))
 
 pub none_kept : (part : List (Option Posting)) (branch : ℕ) → ((k : ℕ) → get_or part k None ≡ None) → Kept part branch
-none_kept part branch free k it e = absurd (none-some it (sym (free k) ∙ e))
+none_kept part branch free = record { own = λ k it e. absurd (none-some it (sym (free k) ∙ e)); once = λ j k it f e. absurd (none-some it (sym (free k) ∙ e)) }

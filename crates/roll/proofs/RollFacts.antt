@@ -2,17 +2,15 @@
 use Rattle.std.proofs.Common.{◌≡◌, ℕ, zero, suc, ◌+◌, ◌-◌, ◌<◌, ◌≤◌, min, Bool, true, false, not, ◌&&◌, ◌||◌, eqb, leb, ltb, ◌⊎◌, List, [], ◌∷◌, map, length, get_or, is_none, take, drop, set, replicate, Some, None, Option, Ok, Err, sym, refl, ap, ◌∙◌, subst, inl, inr, arith}
 use Rattle.refusals.proofs.Rows.{all_of, all_range, all_same, must_true}
 use Rattle.refusals.specs.Checks.{all}
-use Rattle.registers.proofs.PostingFacts.{postings_same, put_full, put_passes, take_passes}
-use Rattle.registers.specs.Meaning.{Postings, added, put_checked, removed, same_posting, take_checked}
+use Rattle.registers.specs.Meaning.{Postings, added, postings_at, removed, same_posting, take_checked}
 use Rattle.registers.specs.declared.fault.RegisterFault.TheVariants.{Full, Unfit}
-use Rattle.roll.proofs.PartFacts.{among_at, freed, freed_kept, none_among, none_free, none_kept, one_free, within, written, written_kept}
+use Rattle.roll.proofs.PartFacts.{among_at, free_found, freed, freed_kept, none_among, none_free, none_kept, one_free, within, written, written_kept}
 use Rattle.roll.specs.Part.{Kept, among}
-use Rattle.roll.specs.Roll.{KeptParts, roll_checked, roll_part, roll_posted, roll_share, roll_start, shares_before, shares_fit}
+use Rattle.roll.specs.Roll.{IsRecord, KeptParts, roll_checked, roll_part, roll_posted, roll_share, roll_start, shares_before, shares_fit}
 use Rattle.registers.specs.declared.posting.Posting.{Posting}
-use Rattle.search.proofs.Searches.{first_found, first_missed}
 use Rattle.search.proofs.Sums.{sum_grows, sum_more}
 use Rattle.search.specs.Searches.{first_below}
-use Rattle.std.specs.List.{list_all}
+use Rattle.std.specs.List.{list_all, position}
 use Rattle.std.proofs.lemmas.List.{drop-set-add, drop-set-lt, drop-take, get_or-drop, get_or_past, get_or-replicate, get_or-take, length-append, length-drop, length-map, length-replicate, length-set, length-take, take-set-le}
 use Rattle.std.proofs.lemmas.Bool.{and_left, and_parts, and_right, cases_eq, cases_lt, cases_order, cond-false, cond-true, leb-true, le-ltb, lt-ltb, ltb-true, ne_eqb}
 
@@ -65,26 +63,37 @@ module _ (records : List (Option Posting)) (shares : List ℕ) (branches : ℕ) 
       let n = roll_share (length records) shares branches b in
       omega (arith, length-take n (drop s records), length-drop s records, share_within (length records) shares branches b)
 
-  -- what is put is refused as full where no record is free, and passes where one is
-  module _ (kept : KeptParts records shares branches) (x y b : ℕ) (own-person : x < 64) (own-role : y < 16) (own-branch : b < branches) (absent : roll_posted records shares branches x y b ≡ false) where
-    pub roll_full : first_below (length (roll_part records shares branches b)) (λ k. is_none (get_or (roll_part records shares branches b) k None)) ≡ None → put_checked (roll_posted records shares branches) branches (roll_share (length records) shares branches) x y b ≡ Err (Full b)
-    roll_full none =
-        put_full (roll_posted records shares branches) branches (roll_share (length records) shares branches) x y b own-person own-role own-branch absent
-        (omega (arith, part_length b, none_free (roll_part records shares branches b) b (kept b) none))
+  -- a part's record, among all
+  pub part_record : (b k : ℕ) → k < length (roll_part records shares branches b) → get_or (roll_part records shares branches b) k None ≡ get_or records (roll_start (length records) shares b + k) None
+  part_record b k h =
+      let s = roll_start (length records) shares b in
+      get_or-take (roll_share (length records) shares branches b) (drop s records) k None (omega (arith, part_length b)) ∙ get_or-drop s records k None
 
-    pub roll_room : (k : ℕ) → k < length (roll_part records shares branches b) → get_or (roll_part records shares branches b) k None ≡ None → put_checked (roll_posted records shares branches) branches (roll_share (length records) shares branches) x y b ≡ Ok tt
-    roll_room k h free =
-        put_passes (roll_posted records shares branches) branches (roll_share (length records) shares branches) x y b own-person own-role own-branch absent
-        (omega (arith, part_length b, one_free (roll_part records shares branches b) b (kept b) k h free))
+  -- a branch has as many postings as its share where none of its records is free, and fewer where one is
+  module _ (kept : KeptParts records shares branches) (b : ℕ) where
+    pub roll_full : position is_none (roll_part records shares branches b) ≡ None → false ≡ ltb (postings_at (roll_posted records shares branches) b) (roll_share (length records) shares branches b)
+    roll_full none = sym (le-ltb _ _ (omega (arith, part_length b, none_free (roll_part records shares branches b) b (kept b) none)))
+
+    pub roll_room : (k : ℕ) → position is_none (roll_part records shares branches b) ≡ Some k → true ≡ ltb (postings_at (roll_posted records shares branches) b) (roll_share (length records) shares branches b)
+    roll_room k found =
+        let free = free_found (roll_part records shares branches b) k found in
+        sym (lt-ltb _ _ (omega (arith, part_length b, one_free (roll_part records shares branches b) b (kept b) k free.0 free.1)))
+
+  -- a record of a part, by its place among all records
+  pub is_record : (b i start : ℕ) (part : List (Option Posting)) (here : Option Posting) → part ≡ roll_part records shares branches b → start ≡ roll_start (length records) shares b → (i < length part) × (get_or part i None ≡ here) → IsRecord records shares branches b (start + i) here
+  is_record b i start part here own starts found =
+      let h : i < length (roll_part records shares branches b) = subst (λ (p : List (Option Posting)). i < length p) own found.0 in record {
+        from = omega (arith, starts);
+        to = omega (arith, starts, h, part_length b);
+        is = ap (λ n. get_or records (n + i) None) starts ∙ sym (part_record b i h) ∙ ap (λ (p : List (Option Posting)). get_or p i None) (sym own) ∙ found.1;
+      }
 
   -- of records that are all free, so are those of each part
   module _ (free : (k : ℕ) → get_or records k None ≡ None) where
     part_free : (b k : ℕ) → get_or (roll_part records shares branches b) k None ≡ None
     part_free b k =
-        let n = roll_share (length records) shares branches b in
-        let s = roll_start (length records) shares b in
         elim (cases_lt k (length (roll_part records shares branches b))) [
-          | inl h ↦ get_or-take n (drop s records) k None (omega (arith, part_length b)) ∙ get_or-drop s records k None ∙ free (s + k)
+          | inl h ↦ part_record b k h ∙ free (roll_start (length records) shares b + k)
           | inr past ↦ get_or_past (roll_part records shares branches b) k None past
         ]
 
@@ -146,49 +155,59 @@ module _ (records : List (Option Posting)) (shares : List ℕ) (branches b i : �
         | inr ne ↦ subst (λ part. Kept part z) (sym (set_others z ne)) (kept z)
       ]
 
-  set_inside : roll_start (length records) shares b + i < length records
-  set_inside = omega (arith, inside, part_length records shares branches b, share_within (length records) shares branches b)
+-- and back
+module _ (records : List (Option Posting)) (shares : List ℕ) (branches b at : ℕ) (here : Option Posting) (is : IsRecord records shares branches b at here) where
+  pub inside : at < length records
+  inside = omega (arith, is.to, share_within (length records) shares branches b)
+
+  in_part : at - roll_start (length records) shares b < length (roll_part records shares branches b)
+  in_part = omega (arith, is.from, is.to, part_length records shares branches b)
+
+  place : at ≡ roll_start (length records) shares b + (at - roll_start (length records) shares b)
+  place = omega (arith, is.from)
+
+  there : get_or (roll_part records shares branches b) (at - roll_start (length records) shares b) None ≡ here
+  there =
+      part_record records shares branches b (at - roll_start (length records) shares b) in_part
+      ∙ ap (λ k. get_or records k None) (sym place) ∙ is.is
 
 -- a posting written into a free record of its branch's part
-module _ (records : List (Option Posting)) (shares : List ℕ) (branches i at : ℕ) (it : Posting) (inside : i < length (roll_part records shares branches it.branch)) (free : get_or (roll_part records shares branches it.branch) i None ≡ None) (place : at ≡ roll_start (length records) shares it.branch + i) where
-  pub added_inside : at < length records
-  added_inside = omega (arith, place, set_inside records shares branches it.branch i (Some it) inside)
-
+module _ (records : List (Option Posting)) (shares : List ℕ) (branches at : ℕ) (it : Posting) (is : IsRecord records shares branches it.branch at None) where
   pub roll_added : (x y z : ℕ) → roll_posted (set records at (Some it)) shares branches x y z ≡ added (roll_posted records shares branches) it.person it.role it.branch x y z
   roll_added =
-      subst (λ k. (x y z : ℕ) → roll_posted (set records k (Some it)) shares branches x y z ≡ added (roll_posted records shares branches) it.person it.role it.branch x y z) (sym place)
-      (set_posted records shares branches it.branch i (Some it) inside (added (roll_posted records shares branches) it.person it.role it.branch)
-      (λ x y. written (roll_part records shares branches it.branch) i it free inside x y it.branch)
+      let i = at - roll_start (length records) shares it.branch in
+      let h = in_part records shares branches it.branch at None is in
+      subst (λ k. (x y z : ℕ) → roll_posted (set records k (Some it)) shares branches x y z ≡ added (roll_posted records shares branches) it.person it.role it.branch x y z) (sym (place records shares branches it.branch at None is))
+      (set_posted records shares branches it.branch i (Some it) h (added (roll_posted records shares branches) it.person it.role it.branch)
+      (λ x y. written (roll_part records shares branches it.branch) i it (there records shares branches it.branch at None is) h x y it.branch)
       (λ x y z ne. ap (λ t. t || roll_posted records shares branches x y z) (and_left (eqb z it.branch) _ (ne_eqb z it.branch ne))))
 
   pub added_kept : KeptParts records shares branches → it.person < 64 → it.role < 16 → roll_posted records shares branches it.person it.role it.branch ≡ false → KeptParts (set records at (Some it)) shares branches
   added_kept kept own-person own-role absent =
-      subst (λ k. KeptParts (set records k (Some it)) shares branches) (sym place)
-      (set_kept records shares branches it.branch i (Some it) inside kept
-      (written_kept (roll_part records shares branches it.branch) i it free inside (kept it.branch) own-person own-role absent))
+      let i = at - roll_start (length records) shares it.branch in
+      let h = in_part records shares branches it.branch at None is in
+      subst (λ k. KeptParts (set records k (Some it)) shares branches) (sym (place records shares branches it.branch at None is))
+      (set_kept records shares branches it.branch i (Some it) h kept
+      (written_kept (roll_part records shares branches it.branch) i it (there records shares branches it.branch at None is) h (kept it.branch) own-person own-role absent))
 
 -- the record of a posting freed
-module _ (records : List (Option Posting)) (shares : List ℕ) (branches i at : ℕ) (it : Posting) (kept : KeptParts records shares branches) (here : get_or (roll_part records shares branches it.branch) i None ≡ Some it) (place : at ≡ roll_start (length records) shares it.branch + i) where
-  inside-part : i < length (roll_part records shares branches it.branch)
-  inside-part = within (roll_part records shares branches it.branch) i it here
-
-  pub removed_inside : at < length records
-  removed_inside = omega (arith, place, set_inside records shares branches it.branch i None inside-part)
-
-  pub roll_there : roll_posted records shares branches it.person it.role it.branch ≡ true
-  roll_there = among_at (roll_part records shares branches it.branch) (length (roll_part records shares branches it.branch)) i it.person it.role it.branch inside-part here
-
+module _ (records : List (Option Posting)) (shares : List ℕ) (branches at : ℕ) (it : Posting) (kept : KeptParts records shares branches) (is : IsRecord records shares branches it.branch at (Some it)) where
   pub roll_removed : (x y z : ℕ) → roll_posted (set records at None) shares branches x y z ≡ removed (roll_posted records shares branches) it.person it.role it.branch x y z
   roll_removed =
-      subst (λ k. (x y z : ℕ) → roll_posted (set records k None) shares branches x y z ≡ removed (roll_posted records shares branches) it.person it.role it.branch x y z) (sym place)
-      (set_posted records shares branches it.branch i None inside-part (removed (roll_posted records shares branches) it.person it.role it.branch)
-      (λ x y. freed (roll_part records shares branches it.branch) i it here (kept it.branch i it here).3 x y it.branch)
+      let i = at - roll_start (length records) shares it.branch in
+      let e = there records shares branches it.branch at (Some it) is in
+      subst (λ k. (x y z : ℕ) → roll_posted (set records k None) shares branches x y z ≡ removed (roll_posted records shares branches) it.person it.role it.branch x y z) (sym (place records shares branches it.branch at (Some it) is))
+      (set_posted records shares branches it.branch i None (in_part records shares branches it.branch at (Some it) is) (removed (roll_posted records shares branches) it.person it.role it.branch)
+      (λ x y. freed (roll_part records shares branches it.branch) i it e (λ j f. (kept it.branch).once j i it f e) x y it.branch)
       (λ x y z ne. ap (λ t. not t && roll_posted records shares branches x y z) (and_left (eqb z it.branch) _ (ne_eqb z it.branch ne))))
 
   pub removed_kept : KeptParts (set records at None) shares branches
   removed_kept =
-      subst (λ k. KeptParts (set records k None) shares branches) (sym place)
-      (set_kept records shares branches it.branch i None inside-part kept (freed_kept (roll_part records shares branches it.branch) i it here (kept it.branch i it here).3 it.branch (kept it.branch)))
+      let i = at - roll_start (length records) shares it.branch in
+      let e = there records shares branches it.branch at (Some it) is in
+      subst (λ k. KeptParts (set records k None) shares branches) (sym (place records shares branches it.branch at (Some it) is))
+      (set_kept records shares branches it.branch i None (in_part records shares branches it.branch at (Some it) is) kept
+      (freed_kept (roll_part records shares branches it.branch) i it e (λ j f. (kept it.branch).once j i it f e) it.branch (kept it.branch)))
 
 -- records that are all free
 module _ (records : List (Option Posting)) (shares : List ℕ) (branches n : ℕ) (cleared : records ≡ replicate n None) where

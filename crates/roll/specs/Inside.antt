@@ -32,8 +32,11 @@ foreign records shares branches b past =
 pub roll_inside : (records : List (Option Posting)) (shares : List ℕ) (branches : ℕ) → KeptParts records shares branches → Inside (roll_posted records shares branches) branches
 roll_inside records shares branches kept x y b there =
     let found = among_some (roll_part records shares branches b) (length (roll_part records shares branches b)) x y b there in
-    let own = kept b found.0 _ found.2 in
-    (own.0, own.1, elim (cases_lt b branches) [
-      | inl h ↦ h
-      | inr past ↦ absurd (omega (arith, found.1, foreign records shares branches b past))
-    ])
+    let own = (kept b).own found.0 _ found.2 in (
+      own.0,
+      own.1,
+      elim (cases_lt b branches) [
+        | inl h ↦ h
+        | inr past ↦ absurd (omega (arith, found.1, foreign records shares branches b past))
+      ],
+    )

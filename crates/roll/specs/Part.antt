@@ -13,9 +13,9 @@ abbrev pub is_other : Option Posting → ℕ → ℕ → Bool
 is_other None person role = false
 is_other (Some it) person role = it.role == role && not (it.person == person)
 
--- each record that is not free posts a person and a role that there are, at the branch, and no other record is the same posting
-abbrev pub Kept : List (Option Posting) → ℕ → Type 0
-Kept part branch =
-    (k : ℕ) (it : Posting)
-    → slice_index_or part k None ≡ Some it
-    → (it.person < 64) × (it.role < 16) × (it.branch ≡ branch) × ((j : ℕ) → slice_index_or part j None ≡ Some it → j ≡ k)
+-- what holds of the part of a branch
+pub record Kept (part : List (Option Posting)) (branch : ℕ) : Type 0 where
+  -- each record that is not free posts a person to a role, both of which there are, at the branch
+  pub own : (k : ℕ) (it : Posting) → slice_index_or part k None ≡ Some it → (it.person < 64) × (it.role < 16) × (it.branch ≡ branch)
+  -- and no two of them are the same posting
+  pub once : (j k : ℕ) (it : Posting) → slice_index_or part j None ≡ Some it → slice_index_or part k None ≡ Some it → j ≡ k

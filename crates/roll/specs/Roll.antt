@@ -1,5 +1,5 @@
 -- What a roll means: each branch has a part of the records, as long as its share, after the parts of the branches before it.
-use Rattle.std.specs.Prelude.{ℕ, ◌-◌, min, Bool, cond, ◌&&◌, leb, List, length, take, drop, Option, Result, ◌==◌, nat_le, nat_lt, slice_index}
+use Rattle.std.specs.Prelude.{◌≡◌, ℕ, ◌+◌, ◌-◌, ◌<◌, ◌≤◌, min, Bool, cond, ◌&&◌, leb, List, length, take, drop, None, Option, Result, ◌==◌, nat_le, nat_lt, slice_index, slice_index_or}
 use Rattle.refusals.specs.Checks.{all, must}
 use Rattle.registers.specs.Meaning.{Postings}
 use Rattle.registers.specs.declared.fault.RegisterFault.{RegisterFault}
@@ -23,6 +23,12 @@ roll_share items shares branches branch = cond (nat_lt branch branches) (min (sl
 -- the part of a branch
 abbrev pub roll_part : List (Option Posting) → List ℕ → ℕ → ℕ → List (Option Posting)
 roll_part records shares branches branch = take (roll_share (length records) shares branches branch) (drop (roll_start (length records) shares branch) records)
+
+-- a place among the records is in the part of a branch, and the record there is this
+pub record IsRecord (records : List (Option Posting)) (shares : List ℕ) (branches branch at : ℕ) (here : Option Posting) : Type 0 where
+  pub from : roll_start (length records) shares branch ≤ at
+  pub to : at < roll_start (length records) shares branch + roll_share (length records) shares branches branch
+  pub is : slice_index_or records at None ≡ here
 
 -- who is posted: whom the branch's own part says
 abbrev pub roll_posted : List (Option Posting) → List ℕ → ℕ → Postings

@@ -3,21 +3,13 @@ ghost use Rattle.std.specs.Prelude.{◌≡◌, ℕ, ◌&&◌, ◌||◌, is_none,
 ghost use Rattle.orders.specs.Masks.{has_bit};
 ghost use Rattle.registers.specs.Meaning.{is_posting};
 ghost use Rattle.roll.specs.Part.{among, is_other};
-ghost use Rattle.search.specs.Searches.{first_below};
+ghost use Rattle.std.specs.List.{position};
 
 use registers::{Posting, with_bit};
-use search::first;
-
-// Tells whether a posting is in a part.
-pub fn holds(part: &[Option<Posting>], posting: Posting) -> bool
-    ensures { result ≡ among part.now (length part.now) posting.person posting.role posting.branch }
-{
-    first(part, &posting).is_some()
-}
 
 // Finds the first record of a part that is free.
 pub fn free_in(part: &[Option<Posting>]) -> Option<usize>
-    ensures { result ≡ first_below (length part.now) (λ k. is_none (slice_index_or part.now k None)) }
+    ensures { result ≡ position is_none part.now }
 {
     part.iter().position(|record| record.is_none())
 }

@@ -1,12 +1,13 @@
 // A roll of records in lent memory.
-ghost use Rattle.std.specs.Prelude.{◌≡◌, ℕ, ◌<◌, false, length, replicate, None, Ok, nat_le, slice_index};
+ghost use Rattle.std.specs.Prelude.{◌≡◌, ℕ, ◌<◌, false, is_some, length, replicate, Some, None, IfSome, Ok, nat_le, nat_lt, slice_index};
+ghost use Rattle.registers.specs.Meaning.{postings_at};
 ghost use Rattle.refusals.specs.Checks.{all};
 ghost use Rattle.std.proofs.Common.{rules, tests};
 ghost use Rattle.roll.specs.Inside.{roll_inside};
-ghost use Rattle.roll.specs.Roll.{KeptParts, roll_checked, roll_part, roll_posted, roll_share, roll_start, shares_before};
+ghost use Rattle.roll.specs.Roll.{IsRecord, KeptParts, roll_checked, roll_part, roll_posted, roll_share, roll_start, shares_before};
 
+use crate::part::{free_in, is_other, roles_in};
 use fields::PERSONS;
-use crate::part::{free_in, holds, is_other, roles_in};
 use refusals::must;
 use registers::{Posting, Register, RegisterFault};
 use search::first;
@@ -85,9 +86,10 @@ impl<'p, 's> Roll<'p, 's> {
         }
     }
 
-    // Where the part of a branch starts.
+    // Where the part of a branch starts, among records that are no more than memory has.
     fn start(&self, branch: u8) -> usize
-        ensures { result ≡ roll_start (length self.now.records.now) self.now.shares.now branch }
+        ensures fits { length self.now.records.now < 18446744073709551616 }
+        ensures place { result ≡ roll_start (length self.now.records.now) self.now.shares.now branch }
     {
         shares_before(self.shares, branch).min(self.records.len())
     }
@@ -111,6 +113,24 @@ impl<'p, 's> Roll<'p, 's> {
         let end = start + self.room(branch) as usize;
         &self.records[start..end]
     }
+
+    // The place of a posting among all records.
+    fn place_of(&self, posting: Posting) -> Option<usize>
+        ensures there { is_some result ≡ roll_posted self.now.records.now self.now.shares.now self.now.branches posting.person posting.role posting.branch }
+        ensures place { IfSome result (λ at. IsRecord self.now.records.now self.now.shares.now self.now.branches posting.branch at (Some posting)) }
+    {
+        let i = first(self.part(posting.branch), &posting)?;
+        Some(self.start(posting.branch) + i)
+    }
+
+    // The place of a free record of a branch; there is one while the branch has fewer postings than its share.
+    fn free_place(&self, branch: u8) -> Option<usize>
+        ensures there { is_some result ≡ nat_lt (postings_at (roll_posted self.now.records.now self.now.shares.now self.now.branches) branch) (roll_share (length self.now.records.now) self.now.shares.now self.now.branches branch) }
+        ensures place { IfSome result (λ at. IsRecord self.now.records.now self.now.shares.now self.now.branches branch at None) }
+    {
+        let i = free_in(self.part(branch))?;
+        Some(self.start(branch) + i)
+    }
 }
 
 impl<'p, 's> Register for Roll<'p, 's> {
@@ -128,6 +148,7 @@ impl<'p, 's> Register for Roll<'p, 's> {
         (branch < self.branches).then_some(self.room(branch))
     }
 
+    #[tactic(auto, using(crate::proofs::PartFacts::own_role))]
     fn roles_of(&self, person: u8, branch: u8) -> u16 {
         roles_in(self.part(branch), person, branch)
     }
@@ -145,25 +166,27 @@ impl<'p, 's> Register for Roll<'p, 's> {
         count
     }
 
+    #[tactic(auto, using(crate::proofs::RollFacts::roll_added, crate::proofs::RollFacts::added_kept, crate::proofs::RollFacts::inside))]
     fn put(&mut self, posting: Posting) -> Result<(), RegisterFault> {
         posting.check(self.branches)?;
         must(
-            !holds(self.part(posting.branch), posting),
+            self.place_of(posting).is_none(),
             RegisterFault::Posted(posting.branch),
         )?;
-        let i = free_in(self.part(posting.branch)).ok_or(RegisterFault::Full(posting.branch))?;
-        let start = self.start(posting.branch);
-        self.records[start + i] = Some(posting);
+        let at = self
+            .free_place(posting.branch)
+            .ok_or(RegisterFault::Full(posting.branch))?;
+        self.records[at] = Some(posting);
         Ok(())
     }
 
+    #[tactic(auto, using(crate::proofs::RollFacts::roll_removed, crate::proofs::RollFacts::removed_kept, crate::proofs::RollFacts::inside))]
     fn take(&mut self, posting: Posting) -> Result<(), RegisterFault> {
         posting.check(self.branches)?;
-        let i = first(self.part(posting.branch), &posting).ok_or(RegisterFault::NotPosted(
-            posting.branch,
-        ))?;
-        let start = self.start(posting.branch);
-        self.records[start + i] = None;
+        let at = self
+            .place_of(posting)
+            .ok_or(RegisterFault::NotPosted(posting.branch))?;
+        self.records[at] = None;
         Ok(())
     }
 
