@@ -1,18 +1,17 @@
 -- What a roll says: where its parts are, that they are apart, and of a part that is changed.
-use Rattle.std.proofs.Common.{◌≡◌, ℕ, zero, suc, ◌+◌, ◌-◌, ◌<◌, ◌≤◌, min, Bool, true, false, not, ◌&&◌, ◌||◌, eqb, leb, ltb, ◌⊎◌, List, [], ◌∷◌, map, length, get_or, is_none, take, drop, set, replicate, Some, None, Option, Ok, Err, sym, refl, ap, ◌∙◌, subst, inl, inr, arith}
+use Rattle.std.proofs.Common.{◌≡◌, ℕ, zero, suc, ◌+◌, ◌-◌, ◌<◌, ◌≤◌, min, Bool, true, false, not, ◌&&◌, ◌||◌, eqb, leb, ltb, ◌⊎◌, List, [], ◌∷◌, length, get_or, is_none, take, drop, set, replicate, Some, None, Option, Ok, sym, refl, ap, ◌∙◌, subst, inl, inr, arith}
 use Rattle.refusals.proofs.Rows.{all_of, all_range, all_same, must_true}
 use Rattle.refusals.specs.Checks.{all}
-use Rattle.registers.specs.Meaning.{Postings, added, postings_at, removed, same_posting, take_checked}
-use Rattle.registers.specs.declared.fault.RegisterFault.TheVariants.{Full, Unfit}
-use Rattle.roll.proofs.PartFacts.{among_at, free_found, freed, freed_kept, none_among, none_free, none_kept, one_free, within, written, written_kept}
+use Rattle.registers.specs.Meaning.{Postings, added, postings_at, removed}
+use Rattle.registers.specs.declared.fault.RegisterFault.TheVariants.{Unfit}
+use Rattle.roll.proofs.PartFacts.{free_found, freed, freed_kept, none_among, none_free, none_kept, one_free, written, written_kept}
 use Rattle.roll.specs.Part.{Kept, among}
 use Rattle.roll.specs.Roll.{IsRecord, KeptParts, roll_checked, roll_part, roll_posted, roll_share, roll_start, shares_before, shares_fit}
 use Rattle.registers.specs.declared.posting.Posting.{Posting}
 use Rattle.search.proofs.Sums.{sum_grows, sum_more}
-use Rattle.search.specs.Searches.{first_below}
 use Rattle.std.specs.List.{list_all, position}
-use Rattle.std.proofs.lemmas.List.{drop-set-add, drop-set-lt, drop-take, get_or-drop, get_or_past, get_or-replicate, get_or-take, length-append, length-drop, length-map, length-replicate, length-set, length-take, take-set-le}
-use Rattle.std.proofs.lemmas.Bool.{and_left, and_parts, and_right, cases_eq, cases_lt, cases_order, cond-false, cond-true, leb-true, le-ltb, lt-ltb, ltb-true, ne_eqb}
+use Rattle.std.proofs.lemmas.List.{drop-set-add, drop-set-lt, get_or-drop, get_or_past, get_or-replicate, get_or-take, length-drop, length-replicate, length-set, length-take, take-set-le}
+use Rattle.std.proofs.lemmas.Bool.{and_left, and_parts, cases_eq, cases_lt, cases_order, cond-false, cond-true, leb-true, le-ltb, lt-ltb, ne_eqb}
 
 -- a part's length: its share is never more than is left
 module _ (items : ℕ) (shares : List ℕ) (branches : ℕ) where

@@ -1,5 +1,5 @@
 -- What holds of a roll that is kept: nobody is posted who is no person, to no role, or at a branch that is not the roll's own.
-use Rattle.std.specs.Prelude.{◌≡◌, ℕ, ◌<◌, ◌≤◌, Bool, true, ◌&&◌, List, length, take, drop, Some, None, Option, ◌==◌, slice_index_or}
+use Rattle.std.specs.Prelude.{◌≡◌, ℕ, ◌<◌, ◌≤◌, true, List, length, take, drop, Some, None, Option}
 use Rattle.std.proofs.Common.{eqb, ltb, get_or, inl, inr, sym, ap, ◌∙◌, arith}
 use Rattle.std.proofs.lemmas.Bool.{and_parts, cases_lt, cond-false, eqb-true, le-ltb, true≢false}
 use Rattle.registers.specs.Meaning.{Inside, is_posting}

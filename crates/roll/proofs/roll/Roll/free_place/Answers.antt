@@ -1,5 +1,5 @@
 -- A record of the branch's part is free while the branch has room.
-use Rattle.std.proofs.Common.{◌≡◌, ◌+◌, ◌<◌, List, is_none, is_some, Option, None, sym, ap, ◌∙◌, arith}
+use Rattle.std.proofs.Common.{◌+◌, List, is_none, is_some, Option, None, sym, ap, ◌∙◌, arith}
 use Rattle.registers.specs.declared.posting.Posting.{Posting}
 use Rattle.roll.proofs.PartFacts.{free_found}
 use Rattle.roll.proofs.RollFacts.{inside, is_record, roll_full, roll_room}

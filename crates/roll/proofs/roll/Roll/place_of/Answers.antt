@@ -1,5 +1,5 @@
 -- The posting stands in the branch's part, or nowhere.
-use Rattle.std.proofs.Common.{◌≡◌, ◌+◌, ◌<◌, List, length, is_some, Option, Some, None, sym, ap, ◌∙◌, arith}
+use Rattle.std.proofs.Common.{◌+◌, List, length, is_some, Option, Some, None, sym, ap, ◌∙◌, arith}
 use Rattle.registers.specs.declared.posting.Posting.{Posting}
 use Rattle.roll.proofs.PartFacts.{posting_found}
 use Rattle.roll.proofs.RollFacts.{inside, is_record}

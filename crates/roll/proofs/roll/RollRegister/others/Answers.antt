@@ -1,5 +1,5 @@
 -- Each record that posts another is one other more, since none of the part repeats an earlier one.
-use Rattle.std.proofs.Common.{◌≡◌, ℕ, ◌+◌, false, cond, not, ◌&&◌, eqb, ltb, List, length, get_or, Option, None, sym, ap, ◌∙◌, subst, arith}
+use Rattle.std.proofs.Common.{◌≡◌, ℕ, cond, not, ◌&&◌, eqb, ltb, List, length, get_or, Option, None, sym, ap, ◌∙◌, subst, arith}
 use Rattle.registers.proofs.PostingFacts.{count_most, count_zero}
 use Rattle.registers.specs.declared.posting.Posting.{Posting}
 use Rattle.roll.proofs.PartFacts.{among_none, others_more}

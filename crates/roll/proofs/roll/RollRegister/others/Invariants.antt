@@ -1,5 +1,5 @@
 -- The count is of the others whom the records so far post.
-use Rattle.std.proofs.Common.{◌≡◌, ℕ, not, ◌&&◌, eqb}
+use Rattle.std.proofs.Common.{◌≡◌, not, ◌&&◌, eqb}
 use Rattle.roll.proofs.roll.RollRegister.others.Given as goal
 use Rattle.roll.specs.Part.{among}
 use Rattle.search.specs.Searches.{count_below}
