@@ -124,6 +124,7 @@ impl<'p, 's> Roll<'p, 's> {
     }
 
     // The place of a free record of a branch; there is one while the branch has fewer postings than its share.
+    #[tactic(auto, using(crate::proofs::RollFacts::roll_full, crate::proofs::RollFacts::roll_room, crate::proofs::RollFacts::share_within))]
     fn free_place(&self, branch: u8) -> Option<usize>
         ensures there { is_some result ≡ nat_lt (postings_at (roll_posted self.now.records.now self.now.shares.now self.now.branches) branch) (roll_share (length self.now.records.now) self.now.shares.now self.now.branches branch) }
         ensures place { IfSome result (λ at. IsRecord self.now.records.now self.now.shares.now self.now.branches branch at None) }
