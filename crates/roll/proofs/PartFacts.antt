@@ -6,11 +6,11 @@ use Rattle.registers.specs.Meaning.{added, is_posting, postings_at, removed, sam
 use Rattle.registers.specs.declared.posting.Posting.{Posting}
 use Rattle.roll.specs.Inside.{among_some, posting_is}
 use Rattle.roll.specs.Part.{Kept, among, is_other}
-use Rattle.search.proofs.Searches.{any_at, any_fails, any_more, any_none, any_same, any_some, first_found, first_missed, first_position}
+use Rattle.search.proofs.Searches.{any_at, any_fails, any_more, any_none, any_same, first_found, first_missed, first_position}
 use Rattle.search.proofs.Sums.{sum_more, sum_none}
 use Rattle.search.specs.Searches.{count_below, first_below}
 use Rattle.std.specs.List.{position}
-use Rattle.std.proofs.Math.Bool.{or_comm}
+use Rattle.std.proofs.Math.Bool.{and-or_distrib_left, or_comm, or-false}
 use Rattle.std.proofs.lemmas.List.{get_or_append_left, get_or_past, get_or_push, get_or-set_other, get_or-set_same, length_push}
 use Rattle.std.proofs.lemmas.Bool.{and_from, and_parts, and_right, both_ways, cases_Bool, cases_eq, cases_lt, eqb-true, lt-ltb, not-true, or_cases, or_left, or_right, true≢false}
 use Rattle.std.proofs.lemmas.Bool.Decides.{nat_tests}
@@ -21,14 +21,6 @@ same_tests : (a b : Bool) → (a ≡ true → b ≡ true) → (b ≡ true → a 
 same_tests true b f g = sym (f refl)
 same_tests false true f g = g refl
 same_tests false false f g = refl
-
-or_false : (a : Bool) → (a || false) ≡ a
-or_false true = refl
-or_false false = refl
-
-and_over_or : (a b c : Bool) → ((a && b) || (a && c)) ≡ (a && (b || c))
-and_over_or true b c = refl
-and_over_or false b c = refl
 
 -- one record more
 pub among_none : (part : List (Option Posting)) (x y z : ℕ) → among part 0 x y z ≡ false
@@ -42,7 +34,7 @@ pub roles_more : (part : List (Option Posting)) (found : Option Posting) (x z be
 roles_more part found x z before after was more q =
     more q
     ∙ ap (λ b. b || (ltb q 16 && is_posting found x q z)) (was q)
-    ∙ and_over_or (ltb q 16) (among part (length part) x q z) (is_posting found x q z)
+    ∙ sym (and-or_distrib_left (ltb q 16) (among part (length part) x q z) (is_posting found x q z))
     ∙ ap (λ b. ltb q 16 && b)
     ((λ i. any_same _ (λ k. is_posting (get_or (part ++ (found ∷ [])) k None) x q z) (length part) (λ k h. ap (λ it. is_posting it x q z) (sym (get_or_append_left part (found ∷ []) None k h))) i || is_posting (last i) x q z)
     ∙ sym (among_more (part ++ (found ∷ [])) (length part) x q z)
@@ -116,7 +108,7 @@ module _ (part : List (Option Posting)) (branch : ℕ) (kept : Kept part branch)
 
   -- one record more: a posting more, unless it is free
   more_free : (k x y : ℕ) → get_or part k None ≡ None → among part (k + 1) x y branch ≡ among part k x y branch
-  more_free k x y here = among_more part k x y branch ∙ ap (λ found. among part k x y branch || is_posting found x y branch) here ∙ or_false (among part k x y branch)
+  more_free k x y here = among_more part k x y branch ∙ ap (λ found. among part k x y branch || is_posting found x y branch) here ∙ or-false (among part k x y branch)
 
   more_one : (k x y : ℕ) (it : Posting) → get_or part k None ≡ Some it → among part (k + 1) x y branch ≡ added (among part k) it.person it.role branch x y branch
   more_one k x y it here =
@@ -154,15 +146,14 @@ module _ (part : List (Option Posting)) (branch : ℕ) (kept : Kept part branch)
   pub one_free : (k : ℕ) → k < length part → get_or part k None ≡ None → postings_at (among part (length part)) branch < length part
   one_free k h free = omega (arith, counted (length part), count_less (λ j. is_some (get_or part j None)) (length part) k h (ap is_some free))
 
-  -- the others in a role, with one record more
-  pub others_more : (k person role : ℕ) → count_below 64 (λ x. not (eqb x person) && among part (k + 1) x role branch) ≡ count_below 64 (λ x. not (eqb x person) && among part k x role branch) + cond (is_other (get_or part k None) person role) 1 0
+  -- the others in a role, of whom the first n records tell
+  abbrev others : ℕ → ℕ → ℕ → ℕ → Bool
+  others n person role x = not (eqb x person) && among part n x role branch
+
+  -- as the records go on: one more with each record that posts another
+  pub others_more : (k person role : ℕ) → count_below 64 (others (k + 1) person role) ≡ count_below 64 (others k person role) + cond (is_other (get_or part k None) person role) 1 0
   others_more k person role = at (get_or part k None) refl
     where
-      same : (found : Option Posting) → get_or part k None ≡ found → is_other found person role ≡ false → ((x : ℕ) → (not (eqb x person) && among part (k + 1) x role branch) ≡ (not (eqb x person) && among part k x role branch)) → count_below 64 (λ x. not (eqb x person) && among part (k + 1) x role branch) ≡ count_below 64 (λ x. not (eqb x person) && among part k x role branch) + cond (is_other (get_or part k None) person role) 1 0
-      same found here not-other all =
-          let none : ◌≡◌ {A = ℕ} (cond (is_other (get_or part k None) person role) 1 0) 0 = ap (λ it. cond (is_other it person role) 1 0) here ∙ ap (λ b. cond b 1 0) not-other in
-          omega (arith, none, count_same (λ x. not (eqb x person) && among part (k + 1) x role branch) (λ x. not (eqb x person) && among part k x role branch) 64 (λ x h. all x))
-
       unsaid : (it : Posting) (x : ℕ) (before : Bool) → is_other (Some it) person role ≡ false → (not (eqb x person) && (same_posting it.person it.role branch x role branch || before)) ≡ (not (eqb x person) && before)
       unsaid it x before e = grind (arith, nat_tests)
 
@@ -172,25 +163,28 @@ module _ (part : List (Option Posting)) (branch : ℕ) (kept : Kept part branch)
       themselves : (it : Posting) (before : Bool) → is_other (Some it) person role ≡ true → (not (eqb it.person person) && (same_posting it.person it.role branch it.person role branch || before)) ≡ true
       themselves it before e = grind (arith, nat_tests)
 
-      role-is : (it : Posting) → is_other (Some it) person role ≡ true → it.role ≡ role
-      role-is it e = eqb-true it.role role (and_parts (eqb it.role role) _ e).0
+      none-more : is_other (get_or part k None) person role ≡ false → ((x : ℕ) → others (k + 1) person role x ≡ others k person role x) → count_below 64 (others (k + 1) person role) ≡ count_below 64 (others k person role) + cond (is_other (get_or part k None) person role) 1 0
+      none-more not-other same =
+          let none : ◌≡◌ {A = ℕ} (cond (is_other (get_or part k None) person role) 1 0) 0 = ap (λ b. cond b 1 0) not-other in
+          omega (arith, none, count_same (others (k + 1) person role) (others k person role) 64 (λ x h. same x))
 
-      at : (found : Option Posting) → get_or part k None ≡ found → count_below 64 (λ x. not (eqb x person) && among part (k + 1) x role branch) ≡ count_below 64 (λ x. not (eqb x person) && among part k x role branch) + cond (is_other (get_or part k None) person role) 1 0
-      at None here = same None here refl (λ x. ap (λ b. not (eqb x person) && b) (more_free k x role here))
+      at : (found : Option Posting) → get_or part k None ≡ found → count_below 64 (others (k + 1) person role) ≡ count_below 64 (others k person role) + cond (is_other (get_or part k None) person role) 1 0
+      at None here = none-more (ap (λ found. is_other found person role) here) (λ x. ap (λ b. not (eqb x person) && b) (more_free k x role here))
       at (Some it) here =
+          let is = ap (λ found. is_other found person role) here in
           elim (cases_Bool (is_other (Some it) person role)) [
             | inl other ↦
-                let one : ◌≡◌ {A = ℕ} (cond (is_other (get_or part k None) person role) 1 0) 1 = ap (λ found. cond (is_other found person role) 1 0) here ∙ ap (λ b. cond b 1 0) other in
-                let new : among part k it.person role branch ≡ false = subst (λ r. among part k it.person r branch ≡ false) (role-is it other) (first_time k it here) in
+                let one : ◌≡◌ {A = ℕ} (cond (is_other (get_or part k None) person role) 1 0) 1 = ap (λ b. cond b 1 0) (is ∙ other) in
+                let new : among part k it.person role branch ≡ false = subst (λ r. among part k it.person r branch ≡ false) (eqb-true it.role role (and_parts (eqb it.role role) _ other).0) (first_time k it here) in
                 omega (
                   arith,
                   one,
-                  count_raised (λ x. not (eqb x person) && among part k x role branch) (λ x. not (eqb x person) && among part (k + 1) x role branch) 64 it.person (kept.own k it here).0
+                  count_raised (others k person role) (others (k + 1) person role) 64 it.person (kept.own k it here).0
                       (λ x h ne. ap (λ b. not (eqb x person) && b) (more_one k x role it here ∙ apart it x (among part k x role branch) ne))
                       (and_right (not (eqb it.person person)) _ new)
                       (ap (λ b. not (eqb it.person person) && b) (more_one k it.person role it here) ∙ themselves it (among part k it.person role branch) other),
                 )
-            | inr not-other ↦ same (Some it) here not-other (λ x. ap (λ b. not (eqb x person) && b) (more_one k x role it here) ∙ unsaid it x (among part k x role branch) not-other)
+            | inr not-other ↦ none-more (is ∙ not-other) (λ x. ap (λ b. not (eqb x person) && b) (more_one k x role it here) ∙ unsaid it x (among part k x role branch) not-other)
           ]
 
 -- a posting written into a free record
@@ -199,7 +193,15 @@ module _ (part : List (Option Posting)) (at : ℕ) (new : Posting) (free : get_o
   abbrev now' : List (Option Posting)
   now' = set part at (Some new)
 
-  -- a record that was not free is as it was
+  -- a record that is not free is the one that is written, or was there
+  which : (k : ℕ) (it : Posting) → get_or now' k None ≡ Some it → ((k ≡ at) × (new ≡ it)) ⊎ (get_or part k None ≡ Some it)
+  which k it e =
+      elim (cases_eq k at) [
+        | inl same ↦ inl (same, inner new it (sym (ap (λ j. get_or now' j None) same ∙ get_or-set_same part at (Some new) None inside) ∙ e))
+        | inr other ↦ inr (sym (get_or-set_other part at k (Some new) None other) ∙ e)
+      ]
+
+  -- and one that was there is as it was
   stays : (k : ℕ) (it : Posting) → get_or part k None ≡ Some it → get_or now' k None ≡ Some it
   stays k it e = get_or-set_other part at k (Some new) None (λ same. none-some it (sym free ∙ ap (λ j. get_or part j None) (sym same) ∙ e)) ∙ e
 
@@ -207,18 +209,14 @@ module _ (part : List (Option Posting)) (at : ℕ) (new : Posting) (free : get_o
   written x y z =
       same_tests _ _
       (λ e.
-      let found = any_some (λ k. is_posting (get_or now' k None) x y z) (length part) e in
-      elim (cases_eq found.0 at) [
-        | inl same ↦
-            or_left (same_posting new.person new.role new.branch x y z) _
-            (sym (ap (λ it. is_posting it x y z) (ap (λ k. get_or now' k None) same ∙ get_or-set_same part at (Some new) None inside)) ∙ found.2)
-        | inr other ↦
-            or_right (same_posting new.person new.role new.branch x y z) _
-            (any_at (λ k. is_posting (get_or part k None) x y z) (length part) found.0 found.1 (sym (ap (λ it. is_posting it x y z) (get_or-set_other part at found.0 (Some new) None other)) ∙ found.2))
+      let found = among_some now' (length part) x y z e in
+      elim (which found.0 _ found.2) [
+        | inl here ↦ or_left (same_posting new.person new.role new.branch x y z) _ (ap (λ it. is_posting (Some it) x y z) here.1 ∙ is_itself x y z)
+        | inr was ↦ or_right (same_posting new.person new.role new.branch x y z) _ (among_at part (length part) found.0 x y z found.1 was)
       ])
       (λ e.
       elim (or_cases (same_posting new.person new.role new.branch x y z) (among part (length part) x y z) e) [
-        | inl same ↦ any_at (λ k. is_posting (get_or now' k None) x y z) (length part) at inside (ap (λ it. is_posting it x y z) (get_or-set_same part at (Some new) None inside) ∙ same)
+        | inl same ↦ among_at now' (length part) at x y z inside (get_or-set_same part at (Some new) None inside ∙ posting_is (Some new) x y z same)
         | inr there ↦ let found = among_some part (length part) x y z there in among_at now' (length part) found.0 x y z found.1 (stays found.0 _ found.2)
       ])
 
@@ -229,14 +227,6 @@ module _ (part : List (Option Posting)) (at : ℕ) (new : Posting) (free : get_o
   pub written_kept : Kept part new.branch → new.person < 64 → new.role < 16 → among part (length part) new.person new.role new.branch ≡ false → Kept now' new.branch
   written_kept kept own-person own-role absent = record { own = own; once = once }
     where
-      -- a record that is not free is the one that is written, or was there
-      which : (k : ℕ) (it : Posting) → get_or now' k None ≡ Some it → ((k ≡ at) × (new ≡ it)) ⊎ (get_or part k None ≡ Some it)
-      which k it e =
-          elim (cases_eq k at) [
-            | inl same ↦ inl (same, inner new it (sym (ap (λ j. get_or now' j None) same ∙ get_or-set_same part at (Some new) None inside) ∙ e))
-            | inr other ↦ inr (sym (get_or-set_other part at k (Some new) None other) ∙ e)
-          ]
-
       own : (k : ℕ) (it : Posting) → get_or now' k None ≡ Some it → (it.person < 64) × (it.role < 16) × (it.branch ≡ new.branch)
       own k it e =
           elim (which k it e) [
@@ -259,8 +249,8 @@ module _ (part : List (Option Posting)) (at : ℕ) (new : Posting) (free : get_o
                 ]
           ]
 
--- the record of a posting freed, where no other is the same
-module _ (part : List (Option Posting)) (at : ℕ) (it : Posting) (here : get_or part at None ≡ Some it) (once : (j : ℕ) → get_or part j None ≡ Some it → j ≡ at) where
+-- the record of a posting freed
+module _ (part : List (Option Posting)) (at : ℕ) (it : Posting) (here : get_or part at None ≡ Some it) (branch : ℕ) (kept : Kept part branch) where
   abbrev rest : List (Option Posting)
   rest = set part at None
 
@@ -278,7 +268,7 @@ module _ (part : List (Option Posting)) (at : ℕ) (it : Posting) (here : get_or
       let before = as_before found.0 _ found.2 in
       and_from (not (same_posting it.person it.role it.branch x y z)) _
       (elim (cases_Bool (same_posting it.person it.role it.branch x y z)) [
-        | inl same ↦ absurd (before.0 (once found.0 (before.1 ∙ sym (posting_is (Some it) x y z same))))
+        | inl same ↦ absurd (before.0 (kept.once found.0 at it (before.1 ∙ sym (posting_is (Some it) x y z same)) here))
         | inr other ↦ ap not other
       ])
       (among_at part (length part) found.0 x y z found.1 before.1))
@@ -290,8 +280,8 @@ module _ (part : List (Option Posting)) (at : ℕ) (it : Posting) (here : get_or
       (ap (λ o. is_posting o x y z) (sym here ∙ ap (λ j. get_or part j None) (sym same) ∙ found.2) ∙ is_itself x y z) in
       among_at rest (length part) found.0 x y z found.1 (get_or-set_other part at found.0 None None other ∙ found.2))
 
-  pub freed_kept : (branch : ℕ) → Kept part branch → Kept rest branch
-  freed_kept branch kept = record {
+  pub freed_kept : Kept rest branch
+  freed_kept = record {
     own = λ k also e. kept.own k also (as_before k also e).1;
     once = λ j k also f e. kept.once j k also (as_before j also f).1 (as_before k also e).1;
   }

@@ -1,5 +1,5 @@
 -- What a roll says: where its parts are, that they are apart, and of a part that is changed.
-use Rattle.std.proofs.Common.{◌≡◌, ℕ, zero, suc, ◌+◌, ◌-◌, ◌<◌, ◌≤◌, min, Bool, true, false, not, ◌&&◌, ◌||◌, eqb, leb, ltb, ◌⊎◌, List, [], ◌∷◌, length, get_or, is_none, take, drop, set, replicate, Some, None, Option, Ok, sym, refl, ap, ◌∙◌, subst, inl, inr, arith}
+use Rattle.std.proofs.Common.{◌≡◌, ℕ, zero, suc, ◌+◌, ◌-◌, ◌<◌, ◌≤◌, min, Bool, true, false, not, ◌&&◌, ◌||◌, eqb, leb, ltb, List, [], ◌∷◌, length, get_or, is_none, take, drop, set, replicate, Some, None, Option, Ok, sym, refl, ap, ◌∙◌, subst, inl, inr, arith}
 use Rattle.refusals.proofs.Rows.{all_of, all_range, all_same, must_true}
 use Rattle.refusals.specs.Checks.{all}
 use Rattle.registers.specs.Meaning.{Postings, added, postings_at, removed}
@@ -62,7 +62,7 @@ module _ (records : List (Option Posting)) (shares : List ℕ) (branches : ℕ) 
       let n = roll_share (length records) shares branches b in
       omega (arith, length-take n (drop s records), length-drop s records, share_within (length records) shares branches b)
 
-  -- a part's record, among all
+  -- it has the records from its start on
   pub part_record : (b k : ℕ) → k < length (roll_part records shares branches b) → get_or (roll_part records shares branches b) k None ≡ get_or records (roll_start (length records) shares b + k) None
   part_record b k h =
       let s = roll_start (length records) shares b in
@@ -78,7 +78,7 @@ module _ (records : List (Option Posting)) (shares : List ℕ) (branches : ℕ) 
         let free = free_found (roll_part records shares branches b) k found in
         sym (lt-ltb _ _ (omega (arith, part_length b, one_free (roll_part records shares branches b) b (kept b) k free.0 free.1)))
 
-  -- a record of a part, by its place among all records
+  -- a part's record, by its place among all
   pub is_record : (b i start : ℕ) (part : List (Option Posting)) (here : Option Posting) → part ≡ roll_part records shares branches b → start ≡ roll_start (length records) shares b → (i < length part) × (get_or part i None ≡ here) → IsRecord records shares branches b (start + i) here
   is_record b i start part here own starts found =
       let h : i < length (roll_part records shares branches b) = subst (λ (p : List (Option Posting)). i < length p) own found.0 in record {
@@ -109,104 +109,91 @@ take_set_in (suc n) [] i v = refl
 take_set_in (suc n) (x ∷ xs) zero v = refl
 take_set_in (suc n) (x ∷ xs) (suc i) v = ap (λ ys. x ∷ ys) (take_set_in n xs i v)
 
--- one record written
-module _ (records : List (Option Posting)) (shares : List ℕ) (branches b i : ℕ) (v : Option Posting) (inside : i < length (roll_part records shares branches b)) where
-  as_long : (z : ℕ) → roll_part (set records (roll_start (length records) shares b + i) v) shares branches z ≡ take (roll_share (length records) shares branches z) (drop (roll_start (length records) shares z) (set records (roll_start (length records) shares b + i) v))
-  as_long z = ap (λ n. take (roll_share n shares branches z) (drop (roll_start n shares z) (set records (roll_start (length records) shares b + i) v))) (length-set records (roll_start (length records) shares b + i) v)
-
-  pub set_part : roll_part (set records (roll_start (length records) shares b + i) v) shares branches b ≡ set (roll_part records shares branches b) i v
-  set_part =
-      as_long b
-      ∙ ap (take (roll_share (length records) shares branches b)) (drop-set-add (roll_start (length records) shares b) records i v)
-      ∙ take_set_in (roll_share (length records) shares branches b) (drop (roll_start (length records) shares b) records) i v
-
-  pub set_others : (z : ℕ) → (z ≡ b → ⊥) → roll_part (set records (roll_start (length records) shares b + i) v) shares branches z ≡ roll_part records shares branches z
-  set_others z ne = as_long z ∙ apart (cases_order z b)
-    where
-      apart : (z ≡ b) ⊎ ((z < b) ⊎ (b < z)) → take (roll_share (length records) shares branches z) (drop (roll_start (length records) shares z) (set records (roll_start (length records) shares b + i) v)) ≡ roll_part records shares branches z
-      apart (inl same) = absurd (ne same)
-      apart (inr (inl before)) =
-          let s = roll_start (length records) shares z in
-          let n = roll_share (length records) shares branches z in
-          let gap = roll_start (length records) shares b + i - s in
-          let ends : s + n ≤ roll_start (length records) shares b = parts_apart (length records) shares branches z b before in
-          let at : roll_start (length records) shares b + i ≡ s + gap = omega arith in
-          ap (λ k. take n (drop s (set records k v))) at ∙ ap (take n) (drop-set-add s records gap v) ∙ take-set-le n (drop s records) gap v (omega arith)
-      apart (inr (inr after)) =
-          let ends : roll_start (length records) shares b + roll_share (length records) shares branches b ≤ roll_start (length records) shares z = parts_apart (length records) shares branches b z after in
-          ap (take (roll_share (length records) shares branches z))
-          (drop-set-lt (roll_start (length records) shares z) records (roll_start (length records) shares b + i) v (omega (arith, part_length records shares branches b)))
-
-  -- it alone changes who is posted, and the records stay kept where they do in the part
-  pub set_posted : (after : Postings) → ((x y : ℕ) → among (set (roll_part records shares branches b) i v) (length (roll_part records shares branches b)) x y b ≡ after x y b) → ((x y z : ℕ) → (z ≡ b → ⊥) → after x y z ≡ roll_posted records shares branches x y z) → (x y z : ℕ) → roll_posted (set records (roll_start (length records) shares b + i) v) shares branches x y z ≡ after x y z
-  set_posted after here elsewhere x y z =
-      elim (cases_eq z b) [
-        | inl same ↦
-            subst (λ m. roll_posted (set records (roll_start (length records) shares b + i) v) shares branches x y m ≡ after x y m) (sym same)
-            (ap (λ (part : List (Option Posting)). among part (length part) x y b) set_part ∙ ap (λ n. among (set (roll_part records shares branches b) i v) n x y b) (length-set (roll_part records shares branches b) i v) ∙ here x y)
-        | inr ne ↦ ap (λ (part : List (Option Posting)). among part (length part) x y z) (set_others z ne) ∙ sym (elsewhere x y z ne)
-      ]
-
-  pub set_kept : KeptParts records shares branches → Kept (set (roll_part records shares branches b) i v) b → KeptParts (set records (roll_start (length records) shares b + i) v) shares branches
-  set_kept kept here z =
-      elim (cases_eq z b) [
-        | inl same ↦ subst (λ m. Kept (roll_part (set records (roll_start (length records) shares b + i) v) shares branches m) m) (sym same) (subst (λ part. Kept part b) (sym set_part) here)
-        | inr ne ↦ subst (λ part. Kept part z) (sym (set_others z ne)) (kept z)
-      ]
-
--- and back
+-- a record of a branch's part, by its place among all records
 module _ (records : List (Option Posting)) (shares : List ℕ) (branches b at : ℕ) (here : Option Posting) (is : IsRecord records shares branches b at here) where
   pub inside : at < length records
   inside = omega (arith, is.to, share_within (length records) shares branches b)
 
-  in_part : at - roll_start (length records) shares b < length (roll_part records shares branches b)
-  in_part = omega (arith, is.from, is.to, part_length records shares branches b)
+  -- its place in the part
+  abbrev spot : ℕ
+  spot = at - roll_start (length records) shares b
 
-  place : at ≡ roll_start (length records) shares b + (at - roll_start (length records) shares b)
+  place : at ≡ roll_start (length records) shares b + spot
   place = omega (arith, is.from)
 
-  there : get_or (roll_part records shares branches b) (at - roll_start (length records) shares b) None ≡ here
-  there =
-      part_record records shares branches b (at - roll_start (length records) shares b) in_part
-      ∙ ap (λ k. get_or records k None) (sym place) ∙ is.is
+  spot_inside : spot < length (roll_part records shares branches b)
+  spot_inside = omega (arith, is.from, is.to, part_length records shares branches b)
+
+  there : get_or (roll_part records shares branches b) spot None ≡ here
+  there = part_record records shares branches b spot spot_inside ∙ ap (λ k. get_or records k None) (sym place) ∙ is.is
+
+  -- the record written
+  module _ (v : Option Posting) where
+    as_long : (z : ℕ) → roll_part (set records at v) shares branches z ≡ take (roll_share (length records) shares branches z) (drop (roll_start (length records) shares z) (set records at v))
+    as_long z = ap (λ n. take (roll_share n shares branches z) (drop (roll_start n shares z) (set records at v))) (length-set records at v)
+
+    set_part : roll_part (set records at v) shares branches b ≡ set (roll_part records shares branches b) spot v
+    set_part =
+        let s = roll_start (length records) shares b in
+        let n = roll_share (length records) shares branches b in
+        as_long b ∙ ap (λ k. take n (drop s (set records k v))) place ∙ ap (take n) (drop-set-add s records spot v) ∙ take_set_in n (drop s records) spot v
+
+    set_others : (z : ℕ) → (z ≡ b → ⊥) → roll_part (set records at v) shares branches z ≡ roll_part records shares branches z
+    set_others z ne =
+        let s = roll_start (length records) shares z in
+        let n = roll_share (length records) shares branches z in
+        as_long z
+        ∙ elim (cases_order z b) [
+          | inl same ↦ absurd (ne same)
+          | inr (inl before) ↦
+              let ends = parts_apart (length records) shares branches z b before in
+              let gap : at ≡ s + (at - s) = omega (arith, ends, is.from) in
+              ap (λ k. take n (drop s (set records k v))) gap ∙ ap (take n) (drop-set-add s records (at - s) v) ∙ take-set-le n (drop s records) (at - s) v (omega (arith, ends, is.from))
+          | inr (inr after) ↦ ap (take n) (drop-set-lt s records at v (omega (arith, is.to, parts_apart (length records) shares branches b z after)))
+        ]
+
+    -- it alone changes who is posted, and the records stay kept where those of the part do
+    set_posted : (after : Postings) → ((x y : ℕ) → among (set (roll_part records shares branches b) spot v) (length (roll_part records shares branches b)) x y b ≡ after x y b) → ((x y z : ℕ) → (z ≡ b → ⊥) → after x y z ≡ roll_posted records shares branches x y z) → (x y z : ℕ) → roll_posted (set records at v) shares branches x y z ≡ after x y z
+    set_posted after own elsewhere x y z =
+        elim (cases_eq z b) [
+          | inl same ↦
+              subst (λ m. roll_posted (set records at v) shares branches x y m ≡ after x y m) (sym same)
+              (ap (λ (part : List (Option Posting)). among part (length part) x y b) set_part ∙ ap (λ n. among (set (roll_part records shares branches b) spot v) n x y b) (length-set (roll_part records shares branches b) spot v) ∙ own x y)
+          | inr ne ↦ ap (λ (part : List (Option Posting)). among part (length part) x y z) (set_others z ne) ∙ sym (elsewhere x y z ne)
+        ]
+
+    set_kept : KeptParts records shares branches → Kept (set (roll_part records shares branches b) spot v) b → KeptParts (set records at v) shares branches
+    set_kept kept own z =
+        elim (cases_eq z b) [
+          | inl same ↦ subst (λ m. Kept (roll_part (set records at v) shares branches m) m) (sym same) (subst (λ part. Kept part b) (sym set_part) own)
+          | inr ne ↦ subst (λ part. Kept part z) (sym (set_others z ne)) (kept z)
+        ]
 
 -- a posting written into a free record of its branch's part
 module _ (records : List (Option Posting)) (shares : List ℕ) (branches at : ℕ) (it : Posting) (is : IsRecord records shares branches it.branch at None) where
   pub roll_added : (x y z : ℕ) → roll_posted (set records at (Some it)) shares branches x y z ≡ added (roll_posted records shares branches) it.person it.role it.branch x y z
   roll_added =
-      let i = at - roll_start (length records) shares it.branch in
-      let h = in_part records shares branches it.branch at None is in
-      subst (λ k. (x y z : ℕ) → roll_posted (set records k (Some it)) shares branches x y z ≡ added (roll_posted records shares branches) it.person it.role it.branch x y z) (sym (place records shares branches it.branch at None is))
-      (set_posted records shares branches it.branch i (Some it) h (added (roll_posted records shares branches) it.person it.role it.branch)
-      (λ x y. written (roll_part records shares branches it.branch) i it (there records shares branches it.branch at None is) h x y it.branch)
-      (λ x y z ne. ap (λ t. t || roll_posted records shares branches x y z) (and_left (eqb z it.branch) _ (ne_eqb z it.branch ne))))
+      set_posted records shares branches it.branch at None is (Some it) (added (roll_posted records shares branches) it.person it.role it.branch)
+      (λ x y. written (roll_part records shares branches it.branch) _ it (there records shares branches it.branch at None is) (spot_inside records shares branches it.branch at None is) x y it.branch)
+      (λ x y z ne. ap (λ t. t || roll_posted records shares branches x y z) (and_left (eqb z it.branch) _ (ne_eqb z it.branch ne)))
 
   pub added_kept : KeptParts records shares branches → it.person < 64 → it.role < 16 → roll_posted records shares branches it.person it.role it.branch ≡ false → KeptParts (set records at (Some it)) shares branches
   added_kept kept own-person own-role absent =
-      let i = at - roll_start (length records) shares it.branch in
-      let h = in_part records shares branches it.branch at None is in
-      subst (λ k. KeptParts (set records k (Some it)) shares branches) (sym (place records shares branches it.branch at None is))
-      (set_kept records shares branches it.branch i (Some it) h kept
-      (written_kept (roll_part records shares branches it.branch) i it (there records shares branches it.branch at None is) h (kept it.branch) own-person own-role absent))
+      set_kept records shares branches it.branch at None is (Some it) kept
+      (written_kept (roll_part records shares branches it.branch) _ it (there records shares branches it.branch at None is) (spot_inside records shares branches it.branch at None is) (kept it.branch) own-person own-role absent)
 
 -- the record of a posting freed
 module _ (records : List (Option Posting)) (shares : List ℕ) (branches at : ℕ) (it : Posting) (kept : KeptParts records shares branches) (is : IsRecord records shares branches it.branch at (Some it)) where
   pub roll_removed : (x y z : ℕ) → roll_posted (set records at None) shares branches x y z ≡ removed (roll_posted records shares branches) it.person it.role it.branch x y z
   roll_removed =
-      let i = at - roll_start (length records) shares it.branch in
-      let e = there records shares branches it.branch at (Some it) is in
-      subst (λ k. (x y z : ℕ) → roll_posted (set records k None) shares branches x y z ≡ removed (roll_posted records shares branches) it.person it.role it.branch x y z) (sym (place records shares branches it.branch at (Some it) is))
-      (set_posted records shares branches it.branch i None (in_part records shares branches it.branch at (Some it) is) (removed (roll_posted records shares branches) it.person it.role it.branch)
-      (λ x y. freed (roll_part records shares branches it.branch) i it e (λ j f. (kept it.branch).once j i it f e) x y it.branch)
-      (λ x y z ne. ap (λ t. not t && roll_posted records shares branches x y z) (and_left (eqb z it.branch) _ (ne_eqb z it.branch ne))))
+      set_posted records shares branches it.branch at (Some it) is None (removed (roll_posted records shares branches) it.person it.role it.branch)
+      (λ x y. freed (roll_part records shares branches it.branch) _ it (there records shares branches it.branch at (Some it) is) it.branch (kept it.branch) x y it.branch)
+      (λ x y z ne. ap (λ t. not t && roll_posted records shares branches x y z) (and_left (eqb z it.branch) _ (ne_eqb z it.branch ne)))
 
   pub removed_kept : KeptParts (set records at None) shares branches
   removed_kept =
-      let i = at - roll_start (length records) shares it.branch in
-      let e = there records shares branches it.branch at (Some it) is in
-      subst (λ k. KeptParts (set records k None) shares branches) (sym (place records shares branches it.branch at (Some it) is))
-      (set_kept records shares branches it.branch i None (in_part records shares branches it.branch at (Some it) is) kept
-      (freed_kept (roll_part records shares branches it.branch) i it e (λ j f. (kept it.branch).once j i it f e) it.branch (kept it.branch)))
+      set_kept records shares branches it.branch at (Some it) is None kept
+      (freed_kept (roll_part records shares branches it.branch) _ it (there records shares branches it.branch at (Some it) is) it.branch (kept it.branch))
 
 -- records that are all free
 module _ (records : List (Option Posting)) (shares : List ℕ) (branches n : ℕ) (cleared : records ≡ replicate n None) where

@@ -21,6 +21,7 @@ pub struct Roll<'p, 's> {
     records: &'p mut [Option<Posting>],
     shares: &'s [u16],
     branches: u8,
+    // each branch's part has its own postings, none of them twice
     ghost kept: { KeptParts records.now shares.now branches },
 }
 
@@ -154,7 +155,7 @@ impl<'p, 's> Register for Roll<'p, 's> {
         roles_in(self.part(branch), person, branch)
     }
 
-    // A loop over the records, each of which posts somebody that no other does.
+    // A `for` over the records: of those that post somebody else to the role, no two post the same person.
     fn others(&self, posting: Posting) -> u8 {
         let mut count = 0;
         if posting.person < PERSONS {
