@@ -1,13 +1,12 @@
 -- Each record that posts another is one other more, since none of the part repeats an earlier one.
-use Rattle.std.proofs.Common.{◌≡◌, ℕ, cond, not, ◌&&◌, eqb, ltb, List, length, get_or, Option, None, sym, ap, ◌∙◌, subst, arith}
+use Rattle.std.proofs.Common.{◌≡◌, ℕ, cond, not, ◌&&◌, eqb, List, get_or, Option, None, sym, ap, ◌∙◌, subst, arith}
 use Rattle.registers.proofs.PostingFacts.{count_most, count_zero}
 use Rattle.registers.specs.declared.posting.Posting.{Posting}
 use Rattle.roll.proofs.PartFacts.{among_none, others_more}
 use Rattle.roll.proofs.roll.RollRegister.others.Goals as goal
 use Rattle.roll.proofs.roll.RollRegister.others.Goals.{then-is_other, else-is_other}
 use Rattle.roll.specs.Part.{Kept, among, is_other}
-use Rattle.search.specs.Searches.{count_below}
-use Rattle.std.proofs.lemmas.Bool.{and_right, cond-true, lt-ltb}
+use Rattle.std.proofs.lemmas.Bool.{and_right}
 
 pub loop-record-init : goal.loop-record-init
 loop-record-init c =
@@ -32,12 +31,3 @@ loop-record-preserved c =
           let none : ◌≡◌ {A = ℕ} (cond (is_other (get_or part c.loop-record.record-index None) it.person it.role) 1 0) 0 = ap (λ b. cond b 1 0) (sym c.is_other.ensures ∙ w.if-is_other.false) in
           w.count-is ∙ omega (arith, more, none, c.loop-record.invariant)
     ]
-
-pub returns-after-loop-record : goal.returns-after-loop-record
-returns-after-loop-record c =
-    let it = c.args.posting in
-    let ends : c.loop-record.record-index ≡ length c.part-record-items.result.now = omega (arith, c.loop-record-test.false, c.loop-record.auto.record-index-end) in
-    c.loop-record.invariant
-    ∙ ap (λ n. count_below 64 (λ x. not (eqb x it.person) && among c.part-record-items.result.now n x it.role it.branch)) ends
-    ∙ ap (λ (part : List (Option Posting)). count_below 64 (λ x. not (eqb x it.person) && among part (length part) x it.role it.branch)) c.part-record-items.ensures
-    ∙ sym (cond-true (ltb it.person 64) _ 0 (lt-ltb it.person 64 c.if-posting-lt-PERSONS.true))
