@@ -87,7 +87,7 @@ impl<'p, 's> Roll<'p, 's> {
         }
     }
 
-    // Where the part of a branch starts, among records that are no more than memory has.
+    // Where the part of a branch starts. The records are in memory, so that their count fits.
     fn start(&self, branch: u8) -> usize
         ensures fits { length self.now.records.now < 18446744073709551616 }
         ensures place { result ≡ roll_start (length self.now.records.now) self.now.shares.now branch }
