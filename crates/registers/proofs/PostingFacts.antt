@@ -117,10 +117,6 @@ module _ (posted : Postings) (branches : ℕ) (share : ℕ → ℕ) (person role
   pub put_passes : posted person role branch ≡ false → postings_at posted branch < share branch → put_checked posted branches share person role branch ≡ Ok tt
   put_passes absent room = past_posted absent ∙ ap (λ b. then (must b (Full branch)) (Ok tt)) (lt-ltb (postings_at posted branch) (share branch) room)
 
-  -- a put at a branch that has no room
-  pub put_full : posted person role branch ≡ false → share branch ≤ postings_at posted branch → put_checked posted branches share person role branch ≡ Err (Full branch)
-  put_full absent full = past_posted absent ∙ ap (λ b. then (must b (Full branch)) (Ok tt)) (le-ltb (postings_at posted branch) (share branch) full)
-
   -- a take of what is there
   pub take_passes : posted person role branch ≡ true → take_checked posted branches person role branch ≡ Ok tt
   take_passes there = ap (λ n. then n (then (must (posted person role branch) (NotPosted branch)) (Ok tt))) numbers ∙ ap (λ b. then (must b (NotPosted branch)) (Ok tt)) there

@@ -1,22 +1,17 @@
 -- What a roll says: where its parts are, that they are apart, and of a part that is changed.
-use Rattle.std.proofs.Common.{◌≡◌, ℕ, zero, suc, ◌+◌, ◌-◌, ◌<◌, ◌≤◌, min, Bool, true, false, not, ◌&&◌, ◌||◌, eqb, leb, ltb, ◌⊎◌, List, [], ◌∷◌, map, length, get_or, take, drop, set, replicate, Some, None, Option, Ok, Err, sym, refl, ap, ◌∙◌, subst, inl, inr, arith}
-use borrow.Rule.Slice.PartMut.{put_mid}
+use Rattle.std.proofs.Common.{◌≡◌, ℕ, zero, suc, ◌+◌, ◌-◌, ◌<◌, ◌≤◌, min, Bool, true, false, not, ◌&&◌, ◌||◌, eqb, leb, ltb, List, [], ◌∷◌, length, get_or, is_none, take, drop, set, replicate, Some, None, Option, Ok, sym, refl, ap, ◌∙◌, subst, inl, inr, arith}
 use Rattle.refusals.proofs.Rows.{all_of, all_range, all_same, must_true}
 use Rattle.refusals.specs.Checks.{all}
-use Rattle.registers.proofs.PostingFacts.{postings_same, put_full, put_passes, take_passes}
-use Rattle.registers.specs.Meaning.{Inside, added, postings_at, put_checked, removed, same_posting, take_checked}
-use Rattle.registers.specs.declared.fault.RegisterFault.TheVariants.{Full, Unfit}
-use Rattle.parts.proofs.PartFacts.{held_among, held_free, held_freed, held_written, none_spare, some_spare}
-use Rattle.parts.specs.Part.{among, held, spare, without}
-use Rattle.roll.specs.Roll.{roll_checked, roll_part, roll_posted, roll_share, roll_start, shares_before, shares_fit}
+use Rattle.registers.specs.Meaning.{Postings, added, postings_at, removed}
+use Rattle.registers.specs.declared.fault.RegisterFault.TheVariants.{Unfit}
+use Rattle.roll.proofs.PartFacts.{free_found, freed, freed_kept, none_among, none_free, none_kept, one_free, written, written_kept}
+use Rattle.roll.specs.Part.{Kept, among}
+use Rattle.roll.specs.Roll.{IsRecord, KeptParts, roll_checked, roll_part, roll_posted, roll_share, roll_start, shares_before, shares_fit}
 use Rattle.registers.specs.declared.posting.Posting.{Posting}
-use Rattle.search.proofs.Searches.{first_found, first_missed}
 use Rattle.search.proofs.Sums.{sum_grows, sum_more}
-use Rattle.search.specs.Searches.{first_below}
-use Rattle.std.specs.List.{list_all}
-use Rattle.std.proofs.lemmas.List.{drop-set-add, drop-set-lt, drop-take, get_or-drop, get_or_past, get_or-replicate, get_or-take, length-append, length-drop, length-map, length-replicate, length-set, length-take, take-set-le}
-use Rattle.std.proofs.lemmas.Slice.{between-put_mid, drop-put_mid, take-put_mid_below}
-use Rattle.std.proofs.lemmas.Bool.{and_left, and_parts, and_right, cases_eq, cases_lt, cases_order, cond-false, cond-true, leb-true, le-ltb, lt-ltb, ltb-true, ne_eqb}
+use Rattle.std.specs.List.{list_all, position}
+use Rattle.std.proofs.lemmas.List.{drop-set-add, drop-set-lt, get_or-drop, get_or_past, get_or-replicate, get_or-take, length-drop, length-replicate, length-set, length-take, take-set-le}
+use Rattle.std.proofs.lemmas.Bool.{and_left, and_parts, cases_eq, cases_lt, cases_order, cond-false, cond-true, leb-true, le-ltb, lt-ltb, ne_eqb}
 
 -- a part's length: its share is never more than is left
 module _ (items : ℕ) (shares : List ℕ) (branches : ℕ) where
@@ -67,75 +62,45 @@ module _ (records : List (Option Posting)) (shares : List ℕ) (branches : ℕ) 
       let n = roll_share (length records) shares branches b in
       omega (arith, length-take n (drop s records), length-drop s records, share_within (length records) shares branches b)
 
-  -- at a branch of its own, the part decides
-  pub roll_own : (x y b : ℕ) → b < branches → roll_posted records shares branches x y b ≡ held (roll_part records shares branches b) (length (roll_part records shares branches b)) x y b
-  roll_own x y b own = ap (λ t. t && held (roll_part records shares branches b) (length (roll_part records shares branches b)) x y b) (lt-ltb b branches own)
+  -- it has the records from its start on
+  pub part_record : (b k : ℕ) → k < length (roll_part records shares branches b) → get_or (roll_part records shares branches b) k None ≡ get_or records (roll_start (length records) shares b + k) None
+  part_record b k h =
+      let s = roll_start (length records) shares b in
+      get_or-take (roll_share (length records) shares branches b) (drop s records) k None (omega (arith, part_length b)) ∙ get_or-drop s records k None
 
-  pub roll_among : (x y b : ℕ) → x < 64 → y < 16 → b < branches → roll_posted records shares branches x y b ≡ among (roll_part records shares branches b) (length (roll_part records shares branches b)) x y b
-  roll_among x y b h k own = roll_own x y b own ∙ held_among (roll_part records shares branches b) _ x y b h k
+  -- a branch has as many postings as its share where none of its records is free, and fewer where one is
+  module _ (kept : KeptParts records shares branches) (b : ℕ) where
+    pub roll_full : position is_none (roll_part records shares branches b) ≡ None → false ≡ ltb (postings_at (roll_posted records shares branches) b) (roll_share (length records) shares branches b)
+    roll_full none = sym (le-ltb _ _ (omega (arith, part_length b, none_free (roll_part records shares branches b) b (kept b) none)))
 
-  roll_count : (b : ℕ) → b < branches → postings_at (roll_posted records shares branches) b ≡ postings_at (held (roll_part records shares branches b) (length (roll_part records shares branches b))) b
-  roll_count b own =
-      postings_same (roll_posted records shares branches) (held (roll_part records shares branches b) (length (roll_part records shares branches b))) b (λ x y h k. roll_own x y b own)
+    pub roll_room : (k : ℕ) → position is_none (roll_part records shares branches b) ≡ Some k → true ≡ ltb (postings_at (roll_posted records shares branches) b) (roll_share (length records) shares branches b)
+    roll_room k found =
+        let free = free_found (roll_part records shares branches b) k found in
+        sym (lt-ltb _ _ (omega (arith, part_length b, one_free (roll_part records shares branches b) b (kept b) k free.0 free.1)))
 
-  -- none but its own are posted
-  pub roll_inside : Inside (roll_posted records shares branches) branches
-  roll_inside x y b there =
-      let a = and_parts (ltb b branches) _ there in
-      let p = and_parts (ltb x 64) _ a.1 in
-      let q = and_parts (ltb y 16) _ p.1 in
-      (ltb-true x 64 p.0, ltb-true y 16 q.0, ltb-true b branches a.0)
+  -- a part's record, by its place among all
+  pub is_record : (b i start : ℕ) (part : List (Option Posting)) (here : Option Posting) → part ≡ roll_part records shares branches b → start ≡ roll_start (length records) shares b → (i < length part) × (get_or part i None ≡ here) → IsRecord records shares branches b (start + i) here
+  is_record b i start part here own starts found =
+      let h : i < length (roll_part records shares branches b) = subst (λ (p : List (Option Posting)). i < length p) own found.0 in record {
+        from = omega (arith, starts);
+        to = omega (arith, starts, h, part_length b);
+        is = ap (λ n. get_or records (n + i) None) starts ∙ sym (part_record b i h) ∙ ap (λ (p : List (Option Posting)). get_or p i None) (sym own) ∙ found.1;
+      }
 
-  -- nobody is posted where every record is free
-  pub roll_free : ((k : ℕ) → get_or records k None ≡ None) → (x y z : ℕ) → roll_posted records shares branches x y z ≡ false
-  roll_free none x y z =
-      let n = roll_share (length records) shares branches z in
-      let s = roll_start (length records) shares z in
-      and_right (ltb z branches) _
-      (held_free (roll_part records shares branches z) _ x y z
-      (λ k h. get_or-take n (drop s records) k None (omega (arith, part_length z)) ∙ get_or-drop s records k None ∙ none (s + k)))
-
-  -- what is put is refused as full exactly where no record is spare
-  pub roll_full : (x y b : ℕ) → x < 64 → y < 16 → b < branches → among (roll_part records shares branches b) (length (roll_part records shares branches b)) x y b ≡ false → first_below (length (roll_part records shares branches b)) (spare (roll_part records shares branches b) b) ≡ None → put_checked (roll_posted records shares branches) branches (roll_share (length records) shares branches) x y b ≡ Err (Full b)
-  roll_full x y b h k own absent none =
-      put_full (roll_posted records shares branches) branches (roll_share (length records) shares branches) x y b h k own (roll_among x y b h k own ∙ absent)
-      (omega (arith, part_length b, roll_count b own, none_spare (roll_part records shares branches b) b (length (roll_part records shares branches b)) (first_missed (spare (roll_part records shares branches b) b) (length (roll_part records shares branches b)) none)))
-
-  pub roll_room : (x y b i : ℕ) → x < 64 → y < 16 → b < branches → among (roll_part records shares branches b) (length (roll_part records shares branches b)) x y b ≡ false → first_below (length (roll_part records shares branches b)) (spare (roll_part records shares branches b) b) ≡ Some i → put_checked (roll_posted records shares branches) branches (roll_share (length records) shares branches) x y b ≡ Ok tt
-  roll_room x y b i h k own absent found =
-      let f = first_found (spare (roll_part records shares branches b) b) (length (roll_part records shares branches b)) i found in
-      put_passes (roll_posted records shares branches) branches (roll_share (length records) shares branches) x y b h k own (roll_among x y b h k own ∙ absent)
-      (omega (arith, part_length b, roll_count b own, some_spare (roll_part records shares branches b) b (length (roll_part records shares branches b)) i f.0 f.1))
-
-  -- taking what is there passes
-  pub roll_there : (x y b : ℕ) → x < 64 → y < 16 → b < branches → among (roll_part records shares branches b) (length (roll_part records shares branches b)) x y b ≡ true → take_checked (roll_posted records shares branches) branches x y b ≡ Ok tt
-  roll_there x y b h k own there =
-      take_passes (roll_posted records shares branches) branches (roll_share (length records) shares branches) x y b h k own (roll_among x y b h k own ∙ there)
-
-  -- records of which only one branch's part has changed
-  module _ (after : List (Option Posting)) (b : ℕ) (own : b < branches) (others : (z : ℕ) → (z ≡ b → ⊥) → roll_part after shares branches z ≡ roll_part records shares branches z) where
-    elsewhere : (x y z : ℕ) → (z ≡ b → ⊥) → roll_posted after shares branches x y z ≡ roll_posted records shares branches x y z
-    elsewhere x y z ne = ap (λ part. ltb z branches && held part (length part) x y z) (others z ne)
-
-    pub changed_added : (x y : ℕ) → ((p q : ℕ) → held (roll_part after shares branches b) (length (roll_part after shares branches b)) p q b ≡ added (held (roll_part records shares branches b) (length (roll_part records shares branches b))) x y b p q b) → (p q z : ℕ) → roll_posted after shares branches p q z ≡ added (roll_posted records shares branches) x y b p q z
-    changed_added x y here p q z =
-        elim (cases_eq z b) [
-          | inl same ↦
-              subst (λ m. roll_posted after shares branches p q m ≡ added (roll_posted records shares branches) x y b p q m) (sym same)
-              (ap (λ t. t && held (roll_part after shares branches b) (length (roll_part after shares branches b)) p q b) (lt-ltb b branches own)
-              ∙ here p q ∙ ap (λ t. same_posting x y b p q b || t) (sym (roll_own p q b own)))
-          | inr ne ↦ elsewhere p q z ne ∙ sym (ap (λ t. t || roll_posted records shares branches p q z) (and_left (eqb z b) _ (ne_eqb z b ne)))
+  -- of records that are all free, so are those of each part
+  module _ (free : (k : ℕ) → get_or records k None ≡ None) where
+    part_free : (b k : ℕ) → get_or (roll_part records shares branches b) k None ≡ None
+    part_free b k =
+        elim (cases_lt k (length (roll_part records shares branches b))) [
+          | inl h ↦ part_record b k h ∙ free (roll_start (length records) shares b + k)
+          | inr past ↦ get_or_past (roll_part records shares branches b) k None past
         ]
 
-    pub changed_removed : (x y : ℕ) → ((p q : ℕ) → held (roll_part after shares branches b) (length (roll_part after shares branches b)) p q b ≡ (not (same_posting x y b p q b) && held (roll_part records shares branches b) (length (roll_part records shares branches b)) p q b)) → (p q z : ℕ) → roll_posted after shares branches p q z ≡ removed (roll_posted records shares branches) x y b p q z
-    changed_removed x y here p q z =
-        elim (cases_eq z b) [
-          | inl same ↦
-              subst (λ m. roll_posted after shares branches p q m ≡ removed (roll_posted records shares branches) x y b p q m) (sym same)
-              (ap (λ t. t && held (roll_part after shares branches b) (length (roll_part after shares branches b)) p q b) (lt-ltb b branches own)
-              ∙ here p q ∙ ap (λ t. not (same_posting x y b p q b) && t) (sym (roll_own p q b own)))
-          | inr ne ↦ elsewhere p q z ne ∙ sym (ap (λ t. not t && roll_posted records shares branches p q z) (and_left (eqb z b) _ (ne_eqb z b ne)))
-        ]
+    pub free_posted : (x y z : ℕ) → roll_posted records shares branches x y z ≡ false
+    free_posted x y z = none_among (roll_part records shares branches z) (length (roll_part records shares branches z)) x y z (part_free z)
+
+    pub free_kept : KeptParts records shares branches
+    free_kept b = none_kept (roll_part records shares branches b) b (part_free b)
 
 -- a front of a list in which one element is written
 take_set_in : {X : Type 0} (n : ℕ) (xs : List X) (i : ℕ) (v : X) → take n (set xs i v) ≡ set (take n xs) i v
@@ -144,114 +109,108 @@ take_set_in (suc n) [] i v = refl
 take_set_in (suc n) (x ∷ xs) zero v = refl
 take_set_in (suc n) (x ∷ xs) (suc i) v = ap (λ ys. x ∷ ys) (take_set_in n xs i v)
 
--- one record written
-module _ (records : List (Option Posting)) (shares : List ℕ) (branches b i : ℕ) (v : Option Posting) (inside : i < length (roll_part records shares branches b)) where
-  as_long : (z : ℕ) → roll_part (set records (roll_start (length records) shares b + i) v) shares branches z ≡ take (roll_share (length records) shares branches z) (drop (roll_start (length records) shares z) (set records (roll_start (length records) shares b + i) v))
-  as_long z = ap (λ n. take (roll_share n shares branches z) (drop (roll_start n shares z) (set records (roll_start (length records) shares b + i) v))) (length-set records (roll_start (length records) shares b + i) v)
+-- a record of a branch's part, by its place among all records
+module _ (records : List (Option Posting)) (shares : List ℕ) (branches b at : ℕ) (here : Option Posting) (is : IsRecord records shares branches b at here) where
+  pub inside : at < length records
+  inside = omega (arith, is.to, share_within (length records) shares branches b)
 
-  pub set_part : roll_part (set records (roll_start (length records) shares b + i) v) shares branches b ≡ set (roll_part records shares branches b) i v
-  set_part =
-      as_long b
-      ∙ ap (take (roll_share (length records) shares branches b)) (drop-set-add (roll_start (length records) shares b) records i v)
-      ∙ take_set_in (roll_share (length records) shares branches b) (drop (roll_start (length records) shares b) records) i v
+  -- its place in the part
+  abbrev spot : ℕ
+  spot = at - roll_start (length records) shares b
 
-  pub set_others : (z : ℕ) → (z ≡ b → ⊥) → roll_part (set records (roll_start (length records) shares b + i) v) shares branches z ≡ roll_part records shares branches z
-  set_others z ne = as_long z ∙ apart (cases_order z b)
-    where
-      apart : (z ≡ b) ⊎ ((z < b) ⊎ (b < z)) → take (roll_share (length records) shares branches z) (drop (roll_start (length records) shares z) (set records (roll_start (length records) shares b + i) v)) ≡ roll_part records shares branches z
-      apart (inl same) = absurd (ne same)
-      apart (inr (inl before)) =
-          let s = roll_start (length records) shares z in
-          let n = roll_share (length records) shares branches z in
-          let gap = roll_start (length records) shares b + i - s in
-          let ends : s + n ≤ roll_start (length records) shares b = parts_apart (length records) shares branches z b before in
-          let at : roll_start (length records) shares b + i ≡ s + gap = omega arith in
-          ap (λ k. take n (drop s (set records k v))) at ∙ ap (take n) (drop-set-add s records gap v) ∙ take-set-le n (drop s records) gap v (omega arith)
-      apart (inr (inr after)) =
-          let ends : roll_start (length records) shares b + roll_share (length records) shares branches b ≤ roll_start (length records) shares z = parts_apart (length records) shares branches b z after in
-          ap (take (roll_share (length records) shares branches z))
-          (drop-set-lt (roll_start (length records) shares z) records (roll_start (length records) shares b + i) v (omega (arith, part_length records shares branches b)))
+  place : at ≡ roll_start (length records) shares b + spot
+  place = omega (arith, is.from)
 
--- a posting written over a spare record of its branch's part
-module _ (records : List (Option Posting)) (shares : List ℕ) (branches person role b i at : ℕ) (own-person : person < 64) (own-role : role < 16) (own-branch : b < branches) (found : first_below (length (roll_part records shares branches b)) (spare (roll_part records shares branches b) b) ≡ Some i) (place : at ≡ roll_start (length records) shares b + i) where
-  pub place_inside : at < length records
-  place_inside =
-      omega (arith, (first_found _ (length (roll_part records shares branches b)) i found).0, part_length records shares branches b, share_within (length records) shares branches b)
+  spot_inside : spot < length (roll_part records shares branches b)
+  spot_inside = omega (arith, is.from, is.to, part_length records shares branches b)
 
-  pub roll_added : (x y z : ℕ) → roll_posted (set records at (Some (record { person = person; role = role; branch = b }))) shares branches x y z ≡ added (roll_posted records shares branches) person role b x y z
+  there : get_or (roll_part records shares branches b) spot None ≡ here
+  there = part_record records shares branches b spot spot_inside ∙ ap (λ k. get_or records k None) (sym place) ∙ is.is
+
+  -- the record written
+  module _ (v : Option Posting) where
+    as_long : (z : ℕ) → roll_part (set records at v) shares branches z ≡ take (roll_share (length records) shares branches z) (drop (roll_start (length records) shares z) (set records at v))
+    as_long z = ap (λ n. take (roll_share n shares branches z) (drop (roll_start n shares z) (set records at v))) (length-set records at v)
+
+    set_part : roll_part (set records at v) shares branches b ≡ set (roll_part records shares branches b) spot v
+    set_part =
+        let s = roll_start (length records) shares b in
+        let n = roll_share (length records) shares branches b in
+        as_long b ∙ ap (λ k. take n (drop s (set records k v))) place ∙ ap (take n) (drop-set-add s records spot v) ∙ take_set_in n (drop s records) spot v
+
+    set_others : (z : ℕ) → (z ≡ b → ⊥) → roll_part (set records at v) shares branches z ≡ roll_part records shares branches z
+    set_others z ne =
+        let s = roll_start (length records) shares z in
+        let n = roll_share (length records) shares branches z in
+        as_long z
+        ∙ elim (cases_order z b) [
+          | inl same ↦ absurd (ne same)
+          | inr (inl before) ↦
+              let ends = parts_apart (length records) shares branches z b before in
+              let gap : at ≡ s + (at - s) = omega (arith, ends, is.from) in
+              ap (λ k. take n (drop s (set records k v))) gap ∙ ap (take n) (drop-set-add s records (at - s) v) ∙ take-set-le n (drop s records) (at - s) v (omega (arith, ends, is.from))
+          | inr (inr after) ↦ ap (take n) (drop-set-lt s records at v (omega (arith, is.to, parts_apart (length records) shares branches b z after)))
+        ]
+
+    -- it alone changes who is posted, and the records stay kept where those of the part do
+    set_posted : (after : Postings) → ((x y : ℕ) → among (set (roll_part records shares branches b) spot v) (length (roll_part records shares branches b)) x y b ≡ after x y b) → ((x y z : ℕ) → (z ≡ b → ⊥) → after x y z ≡ roll_posted records shares branches x y z) → (x y z : ℕ) → roll_posted (set records at v) shares branches x y z ≡ after x y z
+    set_posted after own elsewhere x y z =
+        elim (cases_eq z b) [
+          | inl same ↦
+              subst (λ m. roll_posted (set records at v) shares branches x y m ≡ after x y m) (sym same)
+              (ap (λ (part : List (Option Posting)). among part (length part) x y b) set_part ∙ ap (λ n. among (set (roll_part records shares branches b) spot v) n x y b) (length-set (roll_part records shares branches b) spot v) ∙ own x y)
+          | inr ne ↦ ap (λ (part : List (Option Posting)). among part (length part) x y z) (set_others z ne) ∙ sym (elsewhere x y z ne)
+        ]
+
+    set_kept : KeptParts records shares branches → Kept (set (roll_part records shares branches b) spot v) b → KeptParts (set records at v) shares branches
+    set_kept kept own z =
+        elim (cases_eq z b) [
+          | inl same ↦ subst (λ m. Kept (roll_part (set records at v) shares branches m) m) (sym same) (subst (λ part. Kept part b) (sym set_part) own)
+          | inr ne ↦ subst (λ part. Kept part z) (sym (set_others z ne)) (kept z)
+        ]
+
+-- a posting written into a free record of its branch's part
+module _ (records : List (Option Posting)) (shares : List ℕ) (branches at : ℕ) (it : Posting) (is : IsRecord records shares branches it.branch at None) where
+  pub roll_added : (x y z : ℕ) → roll_posted (set records at (Some it)) shares branches x y z ≡ added (roll_posted records shares branches) it.person it.role it.branch x y z
   roll_added =
-      let part = roll_part records shares branches b in
-      let f = first_found (spare part b) (length part) i found in
-      let new : Option Posting = Some (record { person = person; role = role; branch = b }) in
-      subst (λ k. (x y z : ℕ) → roll_posted (set records k new) shares branches x y z ≡ added (roll_posted records shares branches) person role b x y z) (sym place)
-      (changed_added records shares branches (set records (roll_start (length records) shares b + i) new) b own-branch
-      (set_others records shares branches b i new f.0) person role
-      (λ x y.
-      ap (λ p. held p (length p) x y b) (set_part records shares branches b i new f.0)
-      ∙ ap (λ n. held (set part i new) n x y b) (length-set part i new)
-      ∙ held_written part b i person role f.0 own-person own-role f.1 x y))
+      set_posted records shares branches it.branch at None is (Some it) (added (roll_posted records shares branches) it.person it.role it.branch)
+      (λ x y. written (roll_part records shares branches it.branch) _ it (there records shares branches it.branch at None is) (spot_inside records shares branches it.branch at None is) x y it.branch)
+      (λ x y z ne. ap (λ t. t || roll_posted records shares branches x y z) (and_left (eqb z it.branch) _ (ne_eqb z it.branch ne)))
 
--- a part written whole
-module _ (records : List (Option Posting)) (shares : List ℕ) (branches b s k : ℕ) (ys : List (Option Posting)) (starts : s ≡ roll_start (length records) shares b) (lasts : k ≡ roll_share (length records) shares branches b) (long : length ys ≡ k) where
-  inside : s + k ≤ length records
-  inside = omega (arith, share_within (length records) shares branches b)
+  pub added_kept : KeptParts records shares branches → it.person < 64 → it.role < 16 → roll_posted records shares branches it.person it.role it.branch ≡ false → KeptParts (set records at (Some it)) shares branches
+  added_kept kept own-person own-role absent =
+      set_kept records shares branches it.branch at None is (Some it) kept
+      (written_kept (roll_part records shares branches it.branch) _ it (there records shares branches it.branch at None is) (spot_inside records shares branches it.branch at None is) (kept it.branch) own-person own-role absent)
 
-  pub mid_length : length (put_mid s k records ys) ≡ length records
-  mid_length = simp (length-append, length-take, length-drop) (omega (arith, inside))
-
-  as_long_mid : (z : ℕ) → roll_part (put_mid s k records ys) shares branches z ≡ take (roll_share (length records) shares branches z) (drop (roll_start (length records) shares z) (put_mid s k records ys))
-  as_long_mid z = ap (λ n. take (roll_share n shares branches z) (drop (roll_start n shares z) (put_mid s k records ys))) mid_length
-
-  pub mid_part : roll_part (put_mid s k records ys) shares branches b ≡ ys
-  mid_part =
-      let all : s + k - s ≡ k = omega arith in
-      as_long_mid b
-      ∙ ap (λ n. take n (drop (roll_start (length records) shares b) (put_mid s k records ys))) (sym lasts ∙ sym all)
-      ∙ ap (λ n. take (s + k - s) (drop n (put_mid s k records ys))) (sym starts)
-      ∙ between-put_mid s k records ys (s + k) (omega (arith, inside)) (long ∙ sym all)
-
-  pub mid_others : (z : ℕ) → (z ≡ b → ⊥) → roll_part (put_mid s k records ys) shares branches z ≡ roll_part records shares branches z
-  mid_others z ne = as_long_mid z ∙ apart (cases_order z b)
-    where
-      apart : (z ≡ b) ⊎ ((z < b) ⊎ (b < z)) → take (roll_share (length records) shares branches z) (drop (roll_start (length records) shares z) (put_mid s k records ys)) ≡ roll_part records shares branches z
-      apart (inl same) = absurd (ne same)
-      apart (inr (inl before)) =
-          let a = roll_start (length records) shares z in
-          let n = roll_share (length records) shares branches z in
-          sym (drop-take a n (put_mid s k records ys))
-          ∙ ap (drop a) (take-put_mid_below s k records ys (a + n) (omega (arith, parts_apart (length records) shares branches z b before)) (omega (arith, inside)))
-          ∙ drop-take a n records
-      apart (inr (inr after)) =
-          ap (take (roll_share (length records) shares branches z))
-          (drop-put_mid s k records ys (roll_start (length records) shares z) (omega (arith, parts_apart (length records) shares branches b z after)) (omega (arith, inside)) long)
-
--- a posting freed wherever it stands in its branch's part
-module _ (records : List (Option Posting)) (shares : List ℕ) (branches person role b s k : ℕ) (ys : List (Option Posting)) (own-branch : b < branches) (starts : s ≡ roll_start (length records) shares b) (lasts : k ≡ roll_share (length records) shares branches b) (freed : ys ≡ map (without person role b) (take k (drop s records))) where
-  from_part : ys ≡ map (without person role b) (roll_part records shares branches b)
-  from_part = freed ∙ ap (λ n. map (without person role b) (take n (drop s records))) lasts ∙ ap (λ n. map (without person role b) (take (roll_share (length records) shares branches b) (drop n records))) starts
-
-  pub freed_length : length ys ≡ k
-  freed_length = ap length from_part ∙ length-map (roll_part records shares branches b) (without person role b) ∙ part_length records shares branches b ∙ sym lasts
-
-  pub roll_removed : (x y z : ℕ) → roll_posted (put_mid s k records ys) shares branches x y z ≡ removed (roll_posted records shares branches) person role b x y z
+-- the record of a posting freed
+module _ (records : List (Option Posting)) (shares : List ℕ) (branches at : ℕ) (it : Posting) (kept : KeptParts records shares branches) (is : IsRecord records shares branches it.branch at (Some it)) where
+  pub roll_removed : (x y z : ℕ) → roll_posted (set records at None) shares branches x y z ≡ removed (roll_posted records shares branches) it.person it.role it.branch x y z
   roll_removed =
-      let part = roll_part records shares branches b in
-      changed_removed records shares branches (put_mid s k records ys) b own-branch (mid_others records shares branches b s k ys starts lasts freed_length) person role
-      (λ x y.
-      ap (λ p. held p (length p) x y b) (mid_part records shares branches b s k ys starts lasts freed_length ∙ from_part)
-      ∙ ap (λ n. held (map (without person role b) part) n x y b) (length-map part (without person role b))
-      ∙ held_freed person role b part x y b)
+      set_posted records shares branches it.branch at (Some it) is None (removed (roll_posted records shares branches) it.person it.role it.branch)
+      (λ x y. freed (roll_part records shares branches it.branch) _ it (there records shares branches it.branch at (Some it) is) it.branch (kept it.branch) x y it.branch)
+      (λ x y z ne. ap (λ t. not t && roll_posted records shares branches x y z) (and_left (eqb z it.branch) _ (ne_eqb z it.branch ne)))
 
--- nobody is posted by records that are all free
-pub roll_cleared : (records : List (Option Posting)) (shares : List ℕ) (branches n : ℕ) → records ≡ replicate n None → (x y z : ℕ) → roll_posted records shares branches x y z ≡ false
-roll_cleared records shares branches n cleared =
-    roll_free records shares branches
-    (λ k.
-    ap (λ (rs : List (Option Posting)). get_or rs k None) cleared
-    ∙ elim (cases_lt k n) as (λ _. get_or {A = Option Posting} (replicate n None) k None ≡ None) [
-      | inl h ↦ get_or-replicate n k None None h
-      | inr past ↦ get_or_past (replicate n None) k None (omega (arith, length-replicate {A = Option Posting} n None))
-    ])
+  pub removed_kept : KeptParts (set records at None) shares branches
+  removed_kept =
+      set_kept records shares branches it.branch at (Some it) is None kept
+      (freed_kept (roll_part records shares branches it.branch) _ it (there records shares branches it.branch at (Some it) is) it.branch (kept it.branch))
+
+-- records that are all free
+module _ (records : List (Option Posting)) (shares : List ℕ) (branches n : ℕ) (cleared : records ≡ replicate n None) where
+  each_free : (k : ℕ) → get_or records k None ≡ None
+  each_free k =
+      ap (λ (rs : List (Option Posting)). get_or rs k None) cleared
+      ∙ elim (cases_lt k n) as (λ _. get_or {A = Option Posting} (replicate n None) k None ≡ None) [
+        | inl h ↦ get_or-replicate n k None None h
+        | inr past ↦ get_or_past (replicate n None) k None (omega (arith, length-replicate {A = Option Posting} n None))
+      ]
+
+  -- post nobody, and are kept
+  pub roll_cleared : (x y z : ℕ) → roll_posted records shares branches x y z ≡ false
+  roll_cleared = free_posted records shares branches each_free
+
+  pub cleared_kept : KeptParts records shares branches
+  cleared_kept = free_kept records shares branches each_free
 
 -- a test of the first shares, of which those that are not there are 0
 all_first : (test : ℕ → Bool) (n : ℕ) → all (suc n) test ≡ (test 0 && all n (λ k. test (suc k)))

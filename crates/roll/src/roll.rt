@@ -1,13 +1,16 @@
 // A roll of records in lent memory.
-ghost use Rattle.std.specs.Prelude.{◌≡◌, ℕ, ◌<◌, false, length, replicate, None, Ok, nat_le, slice_index};
+ghost use Rattle.std.specs.Prelude.{◌≡◌, ℕ, ◌<◌, false, is_some, length, replicate, Some, None, IfSome, Ok, nat_le, nat_lt, slice_index};
+ghost use Rattle.registers.specs.Meaning.{postings_at};
 ghost use Rattle.refusals.specs.Checks.{all};
 ghost use Rattle.std.proofs.Common.{rules, tests};
-ghost use Rattle.roll.specs.Roll.{roll_checked, roll_part, roll_posted, roll_share, roll_start, shares_before};
+ghost use Rattle.roll.specs.Inside.{roll_inside};
+ghost use Rattle.roll.specs.Roll.{IsRecord, KeptParts, roll_checked, roll_part, roll_posted, roll_share, roll_start, shares_before};
 
+use crate::part::{free_in, is_other, roles_in};
 use fields::PERSONS;
-use parts::{holds, others_in, remove_from, roles_in, spare_in};
 use refusals::must;
 use registers::{Posting, Register, RegisterFault};
+use search::first;
 
 // The most postings that a branch may have.
 const MOST: u16 = 1024;
@@ -18,6 +21,8 @@ pub struct Roll<'p, 's> {
     records: &'p mut [Option<Posting>],
     shares: &'s [u16],
     branches: u8,
+    // each branch's part has its own postings, none of them twice
+    ghost kept: { KeptParts records.now shares.now branches },
 }
 
 // The share of a branch, or 0 of one that has none.
@@ -67,7 +72,7 @@ impl<'p, 's> Roll<'p, 's> {
     }
 
     // Makes a roll in which nobody is posted; a part for which there are too few records is shorter.
-    #[tactic(auto, using(crate::proofs::RollFacts::roll_cleared, crate::proofs::RollFacts::share_whole))]
+    #[tactic(auto, using(crate::proofs::RollFacts::roll_cleared, crate::proofs::RollFacts::cleared_kept, crate::proofs::RollFacts::share_whole))]
     pub fn new(records: &'p mut [Option<Posting>], shares: &'s [u16], branches: u8) -> Roll<'p, 's>
         ensures records { result.records.now ≡ replicate (length records.old) None }
         ensures asked { (result.shares.now ≡ shares.now) × (result.branches ≡ branches) }
@@ -82,9 +87,10 @@ impl<'p, 's> Roll<'p, 's> {
         }
     }
 
-    // Where the part of a branch starts.
+    // Where the part of a branch starts. The records are in memory, so that their count fits.
     fn start(&self, branch: u8) -> usize
-        ensures { result ≡ roll_start (length self.now.records.now) self.now.shares.now branch }
+        ensures fits { length self.now.records.now < 18446744073709551616 }
+        ensures place { result ≡ roll_start (length self.now.records.now) self.now.shares.now branch }
     {
         shares_before(self.shares, branch).min(self.records.len())
     }
@@ -108,6 +114,25 @@ impl<'p, 's> Roll<'p, 's> {
         let end = start + self.room(branch) as usize;
         &self.records[start..end]
     }
+
+    // The place of a posting among all records.
+    fn place_of(&self, posting: Posting) -> Option<usize>
+        ensures there { is_some result ≡ roll_posted self.now.records.now self.now.shares.now self.now.branches posting.person posting.role posting.branch }
+        ensures place { IfSome result (λ at. IsRecord self.now.records.now self.now.shares.now self.now.branches posting.branch at (Some posting)) }
+    {
+        let i = first(self.part(posting.branch), &posting)?;
+        Some(self.start(posting.branch) + i)
+    }
+
+    // The place of a free record of a branch; there is one while the branch has fewer postings than its share.
+    #[tactic(auto, using(crate::proofs::RollFacts::roll_full, crate::proofs::RollFacts::roll_room, crate::proofs::RollFacts::share_within))]
+    fn free_place(&self, branch: u8) -> Option<usize>
+        ensures there { is_some result ≡ nat_lt (postings_at (roll_posted self.now.records.now self.now.shares.now self.now.branches) branch) (roll_share (length self.now.records.now) self.now.shares.now self.now.branches branch) }
+        ensures place { IfSome result (λ at. IsRecord self.now.records.now self.now.shares.now self.now.branches branch at None) }
+    {
+        let i = free_in(self.part(branch))?;
+        Some(self.start(branch) + i)
+    }
 }
 
 impl<'p, 's> Register for Roll<'p, 's> {
@@ -125,53 +150,54 @@ impl<'p, 's> Register for Roll<'p, 's> {
         (branch < self.branches).then_some(self.room(branch))
     }
 
+    #[tactic(auto, using(crate::proofs::PartFacts::own_role))]
     fn roles_of(&self, person: u8, branch: u8) -> u16 {
-        if person < PERSONS && branch < self.branches {
-            roles_in(self.part(branch), person, branch)
-        } else {
-            0
-        }
+        roles_in(self.part(branch), person, branch)
     }
 
+    // A `for` over the records: of those that post somebody else to the role, no two post the same person.
     fn others(&self, posting: Posting) -> u8 {
-        if posting.check(self.branches).is_err() {
-            return 0;
+        let mut count = 0;
+        if posting.person < PERSONS {
+            for record in self.part(posting.branch) {
+                if is_other(*record, posting) {
+                    count += 1;
+                }
+            }
         }
-        others_in(self.part(posting.branch), posting)
+        count
     }
 
+    #[tactic(auto, using(crate::proofs::RollFacts::roll_added, crate::proofs::RollFacts::added_kept, crate::proofs::RollFacts::inside))]
     fn put(&mut self, posting: Posting) -> Result<(), RegisterFault> {
         posting.check(self.branches)?;
         must(
-            !holds(self.part(posting.branch), posting),
+            self.place_of(posting).is_none(),
             RegisterFault::Posted(posting.branch),
         )?;
-        let i = spare_in(self.part(posting.branch), posting.branch).ok_or(RegisterFault::Full(
-            posting.branch,
-        ))?;
-        let start = self.start(posting.branch);
-        self.records[start + i] = Some(posting);
+        let at = self
+            .free_place(posting.branch)
+            .ok_or(RegisterFault::Full(posting.branch))?;
+        self.records[at] = Some(posting);
         Ok(())
     }
 
+    #[tactic(auto, using(crate::proofs::RollFacts::roll_removed, crate::proofs::RollFacts::removed_kept, crate::proofs::RollFacts::inside))]
     fn take(&mut self, posting: Posting) -> Result<(), RegisterFault> {
         posting.check(self.branches)?;
-        must(
-            holds(self.part(posting.branch), posting),
-            RegisterFault::NotPosted(posting.branch),
-        )?;
-        let start = self.start(posting.branch);
-        let end = start + self.room(posting.branch) as usize;
-        remove_from(&mut self.records[start..end], posting);
+        let at = self
+            .place_of(posting)
+            .ok_or(RegisterFault::NotPosted(posting.branch))?;
+        self.records[at] = None;
         Ok(())
     }
 
-    #[tactic(auto, using(crate::proofs::RollFacts::roll_cleared))]
+    #[tactic(auto, using(crate::proofs::RollFacts::roll_cleared, crate::proofs::RollFacts::cleared_kept))]
     fn clear(&mut self) {
         self.records.fill(None);
     }
 
-    ghost inside = { Prim.search (rules, tests) };
+    ghost inside = { λ r. roll_inside r.records.now r.shares.now r.branches r.kept };
 
     ghost shares = { Prim.search (rules, tests) };
 }

@@ -5,11 +5,7 @@ use Rattle.std.proofs.lemmas.Bool.{cases_lt, cond-false, cond-true, le-ltb, lt-l
 use Rattle.std.proofs.lemmas.List.Sums.{fails_before_first, passes_at_first}
 use Rattle.search.specs.Searches.{or_next, first_below, any_below}
 
--- one turn of a loop that looks for the first
-pub first_more : (fits : ℕ → Bool) (n : ℕ) → first_below n fits ≡ None → fits n ≡ false → first_below (n + 1) fits ≡ None
-first_more fits n before here = rw add-one (ap (λ o. or_next o (fits n) n) before ∙ ap (λ b. cond b (Some n) None) here)
-
--- the way out of that loop at a number that fits
+-- the lowest number that fits, where nothing below it does
 pub first_stops : (fits : ℕ → Bool) (n k : ℕ) → k < n → first_below k fits ≡ None → fits k ≡ true → first_below n fits ≡ Some k
 first_stops fits zero k h before here = absurd (omega arith)
 first_stops fits (suc n) k h before here =

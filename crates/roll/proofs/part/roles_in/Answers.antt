@@ -4,9 +4,9 @@ use Rattle.orders.specs.Masks.{has_bit}
 use Rattle.registers.proofs.BitFacts.{no_bit}
 use Rattle.registers.specs.Meaning.{is_posting}
 use Rattle.registers.specs.declared.posting.Posting.{Posting}
-use Rattle.parts.proofs.PartFacts.{among_none, roles_more}
-use Rattle.parts.proofs.part.roles_in.Goals as goal
-use Rattle.parts.specs.Part.{among}
+use Rattle.roll.proofs.PartFacts.{among_none, roles_more}
+use Rattle.roll.proofs.part.roles_in.Goals as goal
+use Rattle.roll.specs.Part.{among}
 use Rattle.std.proofs.lemmas.Bool.{and_right}
 use Rattle.std.proofs.lemmas.Fn.{fold_over, slice_gives, fronts}
 
