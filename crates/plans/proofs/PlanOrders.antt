@@ -50,7 +50,7 @@ parent_read n k f h few =
     ∙ ap (λ branch. branch.parent) (get_or-map-range_with_len g 0 64 k k no_branch (omega arith) (omega arith) ∙ cond-true (ltb k n) (f k) no_branch (lt-ltb k n h))
 
 -- a count that passed is within its bounds
-count_passed : (bytes : List ℕ) (list : Span) (width least most : ℕ) → count_checked bytes list width least most ≡ Ok tt → (leb least list.count ≡ true) × (leb list.count most ≡ true)
+pub count_passed : (bytes : List ℕ) (list : Span) (width least most : ℕ) → count_checked bytes list width least most ≡ Ok tt → (leb least list.count ≡ true) × (leb list.count most ≡ true)
 count_passed bytes list width least most e =
     and_parts (leb least list.count) (leb list.count most) (field_rule bytes list.at width (leb least list.count && leb list.count most) e)
 
