@@ -28,7 +28,7 @@ impl Line {
     }
 
     // Tells whether one of the lines has the same pair.
-    pub(crate) fn repeats_one_of(self, lines: &[Line]) -> bool
+    pub(crate) fn repeats_pair_in(self, lines: &[Line]) -> bool
         ensures { result ≡ list_any (λ line. same_pair line self) lines.now }
     {
         lines.iter().any(|line| line.same_pair(self))

@@ -127,7 +127,7 @@ impl PlanFile<'_> {
         Ok(())
     }
 
-    // No line of the list repeats the pair of an earlier one.
+    // No line of the list, which fits in an array, repeats the pair of an earlier one.
     #[tactic(auto, using(crate::proofs::Apart::looks_back))]
     fn check_lines(&self, list: Span) -> Result<(), PlanFault>
         requires { list.count ≤ 64 }
@@ -136,7 +136,7 @@ impl PlanFile<'_> {
         let lines: [Line; LINES] = self.records(list);
         for (k, line) in lines[..list.count as usize].iter().enumerate() {
             let at = offset::<Line>(list.first, k as u16) as usize;
-            must(!line.repeats_one_of(&lines[..k]), PlanFault::Repeated(at))?;
+            must(!line.repeats_pair_in(&lines[..k]), PlanFault::Repeated(at))?;
         }
         Ok(())
     }
