@@ -1,12 +1,12 @@
 -- What is known of bytes that the reader accepts.
-use Rattle.std.proofs.Common.{◌≡◌, ℕ, ◌+◌, ◌-◌, ◌*◌, ◌<◌, ◌≤◌, Bool, true, cond, not, ◌&&◌, ltb, leb, List, [], ◌∷◌, ◌++◌, length, get_or, Ok, Err, Result, refl, ◌∙◌, arith}
-use Rattle.std.proofs.lemmas.List.FromFn.{get_or-map-range_with_len}
-use Rattle.std.proofs.lemmas.Bool.{and_parts, leb-true, ltb-true, not-true, lt-ltb, cond-true}
+use Rattle.std.proofs.Common.{◌≡◌, ℕ, ◌+◌, ◌-◌, ◌*◌, ◌<◌, ◌≤◌, Bool, true, not, ◌&&◌, leb, List, [], ◌∷◌, ◌++◌, length, Ok, Err, Result, refl, arith}
+use Rattle.std.proofs.lemmas.Bool.{and_parts, leb-true, ltb-true, not-true}
 use Rattle.refusals.specs.Checks.{must, in_order}
 use Rattle.refusals.proofs.Rows.{Passed, all_passed, every_at, must_true}
 use Rattle.fields.specs.Bytes.{byte_at}
 use Rattle.fields.specs.Fields.{field_checked}
 use Rattle.fields.specs.Records.{filled}
+use Rattle.fields.proofs.Filled.{filled_at}
 use Rattle.fields.specs.declared.fault.FieldFault.{FieldFault}
 use Rattle.fields.specs.declared.fault.FieldFault.TheVariants.{Misfit, Value}
 use Rattle.messages.specs.Numbers.{within, role_checked, branch_checked}
@@ -69,12 +69,6 @@ post_below b k e h =
     let passed = every_at (λ k. post_checked b (6 + 2 * k)) (byte_at b 5) k h (fields_passed b e).1.1.1.1.0 in
     let both = all_passed (role_checked b at ∷ branch_checked b (at + 1) ∷ []) passed in
     (ltb-true (byte_at b at) 16 (field_holds b at 1 _ both.0), ltb-true (byte_at b (at + 1)) 64 (field_holds b (at + 1) 1 _ both.1.0))
-
--- the records of an array stand in its first places
-pub filled_at : {T : Type 0} (size count : ℕ) (empty : T) (f : ℕ → T) (k : ℕ) (d : T) → k < count → count ≤ size → get_or (filled size count empty f) k d ≡ f k
-unfolding filled
-filled_at size count empty f k d h l =
-    get_or-map-range_with_len (λ k. cond (ltb k count) (f k) empty) 0 size k k d (omega arith) (omega arith) ∙ cond-true (ltb k count) (f k) empty (lt-ltb k count h)
 
 -- no two of the posts that are read are the same
 pub posts_apart : (b : List ℕ) (count : ℕ) → message_result b ≡ Ok tt → count ≡ byte_at b 5 → Apart (filled 4 count no_post (post_in b)) count

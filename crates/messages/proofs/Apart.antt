@@ -1,10 +1,10 @@
 -- Posts beside each other: a look at all earlier ones at once, and posts that were read from bytes.
-use Rattle.std.proofs.Common.{◌≡◌, ℕ, zero, suc, ◌<◌, ◌≤◌, Bool, true, false, not, ◌||◌, List, length, get_or, [], ◌∷◌, take, map, Ok, Result, sym, refl, ap, ◌∙◌, subst, add-one, arith}
+use Rattle.std.proofs.Common.{◌≡◌, ℕ, ◌<◌, not, List, length, get_or, [], ◌∷◌, take, map, Ok, sym, ap, ◌∙◌, subst, arith}
 use Rattle.std.specs.List.{list_any, range_with_len}
 use Rattle.std.proofs.lemmas.List.FromFn.{get_or-map-range_with_len, length-map-range_with_len}
-use Rattle.std.proofs.lemmas.List.Folds.{list_any_more}
 use Rattle.std.proofs.lemmas.List.{get_or-take, length-take-le, take_all}
-use Rattle.refusals.specs.Checks.{must, then, in_order, every}
+use Rattle.refusals.specs.Checks.{must, in_order, every}
+use Rattle.refusals.proofs.Rows.{every_same, every_none}
 use Rattle.fields.specs.Bytes.{byte_at}
 use Rattle.fields.specs.Records.{filled}
 use Rattle.messages.specs.Apart.{differs, new_post, new_at, apart_posts}
@@ -16,23 +16,10 @@ use Rattle.messages.specs.declared.post.Post.{Post}
 use Rattle.messages.proofs.Accepted.{last_says, fields_few}
 use Rattle.messages.proofs.WrittenBack.{filled_front}
 
--- two checks that refuse with the same fault are one
-both : {F : Type 0} (a b : Bool) (fault : F) → then (must (not a) fault) (must (not b) fault) ≡ must (not (a || b)) fault
-both true b fault = refl
-both false b fault = refl
-
--- a row of checks that no element passes the test looks at all elements at once
-row : {X F : Type 0} (test : X → Bool) (xs : List X) (d : X) (fault : F) (n : ℕ) → n ≤ length xs → every n (λ j. must (not (test (get_or xs j d))) fault) ≡ must (not (list_any test (take n xs))) fault
-row test xs d fault zero h = refl
-row test xs d fault (suc n) h =
-    ap (λ before. then before (must (not (test (get_or xs n d))) fault)) (row test xs d fault n (omega arith))
-    ∙ both (list_any test (take n xs)) (test (get_or xs n d)) fault
-    ∙ ap (λ some. must (not some) fault) (sym (list_any_more test xs n d h) ∙ ap (λ k. list_any test (take k xs)) (add-one n))
-
 -- a post is new where none of those before it is the same
 pub new_post_is : (before : List Post) (post : Post) → new_post before post ≡ must (not (list_any (λ earlier. same_post earlier post) before)) (Twice (length before))
 new_post_is before post =
-    row (λ earlier. same_post earlier post) before no_post (Twice (length before)) (length before) (omega arith)
+    every_none (λ earlier. same_post earlier post) before no_post (Twice (length before)) (length before) (omega arith)
     ∙ ap (λ xs. must (not (list_any (λ earlier. same_post earlier post) xs)) (Twice (length before))) (take_all (length before) before (omega arith))
 
 -- the post with a place is new where none of those before it is the same
@@ -40,11 +27,6 @@ pub looks_back : (posts : List Post) (n : ℕ) → n < length posts → new_at p
 looks_back posts n h =
     new_post_is (take n posts) (get_or posts n no_post)
     ∙ ap (λ k. must (not (list_any (λ earlier. same_post earlier (get_or posts n no_post)) (take n posts))) (Twice k)) (length-take-le n posts (omega arith))
-
--- two rows of checks that agree say the same
-every_same : {F : Type 0} (f g : ℕ → Result (Unit {0}) F) (n : ℕ) → ((k : ℕ) → k < n → f k ≡ g k) → every n f ≡ every n g
-every_same f g zero same = refl
-every_same f g (suc n) same = λ i. then (every_same f g n (λ k h. same k (omega arith)) i) (same n (omega arith) i)
 
 -- posts that were read from bytes are looked at as the bytes are
 pub apart_read : (b : List ℕ) (count : ℕ) → apart_posts (map (post_in b) (range_with_len 0 count)) ≡ apart_checked b count

@@ -9,6 +9,7 @@ use Rattle.refusals.proofs.Rows.{all_passed, every_at, must_true}
 use Rattle.fields.specs.Bytes.{byte_at, two_at}
 use Rattle.fields.specs.Fields.{header_checked, field_checked}
 use Rattle.fields.specs.Records.{filled}
+use Rattle.fields.proofs.Filled.{filled_at}
 use Rattle.fields.specs.declared.fault.FieldFault.{FieldFault}
 use Rattle.fields.specs.declared.fault.FieldFault.TheVariants.{Version, Length}
 use Rattle.messages.specs.Arguments.{arguments_checked, arguments_of, arguments_width, call_at}
@@ -20,7 +21,7 @@ use Rattle.messages.specs.Reading.{message_result, Reads}
 use Rattle.messages.specs.declared.call.Call.{Call}
 use Rattle.messages.specs.declared.message.Message.{Message}
 use Rattle.messages.specs.declared.post.Post.{Post}
-use Rattle.messages.proofs.Accepted.{fields_passed, field_fits, field_holds, within_bounds, count_bounds, filled_at}
+use Rattle.messages.proofs.Accepted.{fields_passed, field_fits, field_holds, within_bounds, count_bounds}
 
 -- what holds of each call's number holds of every number of a call
 by_call : (P : ℕ → Type 0) → P 1 → P 2 → P 3 → P 4 → P 5 → P 6 → P 7 → P 8 → P 9 → P 10 → P 11 → (n : ℕ) → 1 ≤ n → n ≤ 11 → P n

@@ -2,3 +2,4 @@
 mod Filled
 pub mod PlanOrders
 pub mod Blank
+pub mod Apart

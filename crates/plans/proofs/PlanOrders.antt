@@ -1,13 +1,13 @@
 -- A plan whose bytes pass every check gives both orders.
 use Rattle.std.proofs.Common.{◌≡◌, ℕ, ◌+◌, ◌-◌, ◌<◌, ◌≤◌, Bool, true, false, cond, ◌&&◌, ◌||◌, eqb, ltb, leb, List, [], ◌∷◌, length, get_or, Ok, Err, Result, refl, ap, ◌∙◌, arith}
-use Rattle.std.proofs.lemmas.List.FromFn.{get_or-map-range_with_len, length-map-range_with_len}
 use Rattle.std.proofs.lemmas.List.{get_or-map}
-use Rattle.std.proofs.lemmas.Bool.{and_parts, leb-true, lt-ltb, cond-true}
+use Rattle.std.proofs.lemmas.Bool.{and_parts, leb-true}
 use Rattle.refusals.specs.Checks.{must, in_order, every}
 use Rattle.refusals.proofs.Rows.{Passed, all_passed, must_true, must_of, every_at, every_of}
 use Rattle.fields.specs.Bytes.{byte_at}
 use Rattle.fields.specs.Fields.{field_checked}
 use Rattle.fields.specs.Records.{filled}
+use Rattle.fields.proofs.Filled.{filled_at, filled_long}
 use Rattle.fields.specs.declared.fault.FieldFault.{FieldFault}
 use Rattle.fields.specs.declared.fault.FieldFault.TheVariants.{Misfit, Value}
 use Rattle.orders.specs.Limits.{limit_met}
@@ -42,15 +42,13 @@ parent_lower false named lower e = e
 
 -- the parent of a branch that was read
 parent_read : (n k : ℕ) (f : ℕ → Branch) → k < n → n ≤ 64 → get_or (parents_of (filled 64 n no_branch f)) k 0 ≡ (f k).parent
-unfolding filled
 parent_read n k f h few =
-    let g : ℕ → Branch = λ j. cond (ltb j n) (f j) no_branch in
-    let long : length (filled 64 n no_branch f) ≡ 64 = length-map-range_with_len g 0 64 in
-    get_or-map (λ branch. branch.parent) (filled 64 n no_branch f) k no_branch 0 (omega arith)
-    ∙ ap (λ branch. branch.parent) (get_or-map-range_with_len g 0 64 k k no_branch (omega arith) (omega arith) ∙ cond-true (ltb k n) (f k) no_branch (lt-ltb k n h))
+    let long = filled_long 64 n no_branch f in
+    get_or-map (λ branch. branch.parent) (filled 64 n no_branch f) k no_branch 0 (omega (arith, long))
+    ∙ ap (λ branch. branch.parent) (filled_at 64 n no_branch f k no_branch h few)
 
 -- a count that passed is within its bounds
-count_passed : (bytes : List ℕ) (list : Span) (width least most : ℕ) → count_checked bytes list width least most ≡ Ok tt → (leb least list.count ≡ true) × (leb list.count most ≡ true)
+pub count_passed : (bytes : List ℕ) (list : Span) (width least most : ℕ) → count_checked bytes list width least most ≡ Ok tt → (leb least list.count ≡ true) × (leb list.count most ≡ true)
 count_passed bytes list width least most e =
     and_parts (leb least list.count) (leb list.count most) (field_rule bytes list.at width (leb least list.count && leb list.count most) e)
 

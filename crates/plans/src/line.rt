@@ -1,5 +1,6 @@
 // A line of the grant list or of the take list: who governs whom, and what the person must hold and must not.
 ghost use Rattle.std.specs.Prelude.{◌≡◌};
+ghost use Rattle.std.specs.List.{list_any};
 ghost use Rattle.std.proofs.Common.{rules};
 ghost use Rattle.plans.specs.Line.{same_pair, line_checked, line_at, no_line};
 
@@ -24,6 +25,13 @@ impl Line {
         ensures { result ≡ same_pair self other }
     {
         self.governing == other.governing && self.governed == other.governed
+    }
+
+    // Tells whether one of the lines has the same pair.
+    pub(crate) fn repeats_pair_in(self, lines: &[Line]) -> bool
+        ensures { result ≡ list_any (λ line. same_pair line self) lines.now }
+    {
+        lines.iter().any(|line| line.same_pair(self))
     }
 }
 

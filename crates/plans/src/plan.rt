@@ -57,7 +57,7 @@ impl Plan {
     }
 }
 
-// The parent of each branch. (A function of its own: within `branch_order` this line leaves two clauses to written answers.)
+// The parent of each branch.
 fn parents_of(branches: &[Branch; BRANCHES]) -> [u8; BRANCHES]
     ensures { result ≡ parents_of branches.now }
 {

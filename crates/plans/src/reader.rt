@@ -1,9 +1,9 @@
 // The reader of plan files: every check in the order of the format, and only then the plan.
-ghost use Rattle.std.specs.Prelude.{◌≡◌, ◌+◌, ◌*◌, Ok, OnOk, [], ◌∷◌};
+ghost use Rattle.std.specs.Prelude.{◌≡◌, ◌+◌, ◌*◌, ◌≤◌, Ok, OnOk, [], ◌∷◌};
 ghost use Rattle.refusals.specs.Checks.{every, in_order};
 ghost use Rattle.fields.specs.Records.{filled};
 ghost use Rattle.plans.specs.Plan.{Ordered};
-ghost use Rattle.plans.specs.Reader.{body_steps, count_checked, field_steps, line_steps, piece_steps, line_apart, lines_apart, pair_apart, plan_after, plan_made, plan_result, plan_steps, principal_stands, rows_read};
+ghost use Rattle.plans.specs.Reader.{body_steps, count_checked, field_steps, line_steps, piece_steps, lines_apart, plan_after, plan_made, plan_result, plan_steps, principal_stands, rows_read};
 
 use crate::branch::Branch;
 use crate::fault::PlanFault;
@@ -127,39 +127,22 @@ impl PlanFile<'_> {
         Ok(())
     }
 
-    // Line `k` has another pair than line `j`.
-    fn check_pair(&self, lines: Span, k: u16, j: u16) -> Result<(), PlanFault>
-        ensures { result ≡ pair_apart self.now.bytes.now lines k j }
+    // No line of the list, which fits in an array, repeats the pair of an earlier one.
+    #[tactic(auto, using(crate::proofs::Apart::looks_back))]
+    fn check_lines(&self, list: Span) -> Result<(), PlanFault>
+        requires { list.count ≤ 64 }
+        ensures { result ≡ lines_apart self.now.bytes.now list }
     {
-        let earlier: Line = self.record(lines, j);
-        let repeated = earlier.same_pair(self.record(lines, k));
-        let at = offset::<Line>(lines.first, k) as usize;
-        must(!repeated, PlanFault::Repeated(at))
-    }
-
-    // Line `k` repeats the pair of no earlier line.
-    #[tactic(auto, using(refusals::proofs::Rows::every_stops))]
-    fn check_line(&self, lines: Span, k: u16) -> Result<(), PlanFault>
-        ensures { result ≡ line_apart self.now.bytes.now lines k }
-    {
-        for j in 0..k {
-            self.check_pair(lines, k, j)?;
-        }
-        Ok(())
-    }
-
-    // No line of the list repeats the pair of an earlier one.
-    #[tactic(auto, using(refusals::proofs::Rows::every_stops))]
-    fn check_lines(&self, lines: Span) -> Result<(), PlanFault>
-        ensures { result ≡ lines_apart self.now.bytes.now lines }
-    {
-        for k in 0..lines.count {
-            self.check_line(lines, k)?;
+        let lines: [Line; LINES] = self.records(list);
+        for (k, line) in lines[..list.count as usize].iter().enumerate() {
+            let at = offset::<Line>(list.first, k as u16) as usize;
+            must(!line.repeats_pair_in(&lines[..k]), PlanFault::Repeated(at))?;
         }
         Ok(())
     }
 
     // All checks of a plan.
+    #[tactic(auto, using(crate::proofs::Apart::grants_few, crate::proofs::Apart::takes_few))]
     fn check(&self) -> Result<(), PlanFault>
         ensures { result ≡ in_order (plan_steps self.now.bytes.now self.now.layout) }
     {

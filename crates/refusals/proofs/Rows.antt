@@ -1,7 +1,8 @@
 -- What a row of checks says: as a loop goes through it, and of each check once all have passed.
-use Rattle.std.proofs.Common.{◌≡◌, ℕ, zero, suc, ◌+◌, ◌<◌, Bool, true, false, ◌&&◌, List, [], ◌∷◌, Ok, Err, Result, refl, ap, ◌∙◌, subst, inl, inr, add-one, arith}
+use Rattle.std.proofs.Common.{◌≡◌, ℕ, zero, suc, ◌+◌, ◌<◌, ◌≤◌, Bool, true, false, not, ◌&&◌, ◌||◌, List, [], ◌∷◌, length, get_or, take, Ok, Err, Result, sym, refl, ap, ◌∙◌, subst, inl, inr, add-one, arith}
 use Rattle.std.proofs.lemmas.Bool.{cases_lt, and_parts, and_from, and_left, and_right}
-use Rattle.std.specs.List.{list_all, range_with_len}
+use Rattle.std.proofs.lemmas.List.Folds.{list_any_more}
+use Rattle.std.specs.List.{list_all, list_any, range_with_len}
 use Rattle.refusals.specs.Checks.{must, then, in_order, every, all}
 
 -- a row of checks that has passed, and one more check
@@ -64,6 +65,24 @@ must_of test fault e = ap (λ b. must b fault) e
 pub every_of : {F : Type 0} (check : ℕ → Result (Unit {0}) F) (n : ℕ) → ((k : ℕ) → k < n → check k ≡ Ok tt) → every n check ≡ Ok tt
 every_of check zero h = refl
 every_of check (suc n) h = then_passed (every n check) (check n) (every_of check n (λ k l. h k (omega arith))) ∙ h n (omega arith)
+
+-- two rows of checks that agree say the same
+pub every_same : {F : Type 0} (f g : ℕ → Result (Unit {0}) F) (n : ℕ) → ((k : ℕ) → k < n → f k ≡ g k) → every n f ≡ every n g
+every_same f g zero same = refl
+every_same f g (suc n) same = λ i. then (every_same f g n (λ k h. same k (omega arith)) i) (same n (omega arith) i)
+
+-- two checks that refuse with the same fault are one
+both : {F : Type 0} (a b : Bool) (fault : F) → then (must (not a) fault) (must (not b) fault) ≡ must (not (a || b)) fault
+both true b fault = refl
+both false b fault = refl
+
+-- a row of checks that no element passes the test looks at all elements at once
+pub every_none : {X F : Type 0} (test : X → Bool) (xs : List X) (d : X) (fault : F) (n : ℕ) → n ≤ length xs → every n (λ j. must (not (test (get_or xs j d))) fault) ≡ must (not (list_any test (take n xs))) fault
+every_none test xs d fault zero h = refl
+every_none test xs d fault (suc n) h =
+    ap (λ before. then before (must (not (test (get_or xs n d))) fault)) (every_none test xs d fault n (omega arith))
+    ∙ both (list_any test (take n xs)) (test (get_or xs n d)) fault
+    ∙ ap (λ some. must (not some) fault) (sym (list_any_more test xs n d h) ∙ ap (λ k. list_any test (take k xs)) (add-one n))
 
 -- one turn of a loop through tests
 pub all_more : (test : ℕ → Bool) (n : ℕ) → all n test ≡ true → test n ≡ true → all (n + 1) test ≡ true
