@@ -8,14 +8,14 @@ ghost use Rattle.std.specs.List.{position};
 use registers::{Posting, with_bit};
 
 // Finds the first record of a part that is free.
-pub fn free_in(part: &[Option<Posting>]) -> Option<usize>
+pub(crate) fn free_in(part: &[Option<Posting>]) -> Option<usize>
     ensures { result ≡ position is_none part.now }
 {
     part.iter().position(|record| record.is_none())
 }
 
 // Tells whether a record posts somebody else than a posting does, to the same role.
-pub fn is_other(record: Option<Posting>, posting: Posting) -> bool
+pub(crate) fn is_other(record: Option<Posting>, posting: Posting) -> bool
     ensures { result ≡ is_other «record» posting.person posting.role }
 {
     record.is_some_and(|other| other.role == posting.role && other.person != posting.person)
@@ -32,7 +32,7 @@ fn with_role(mask: u16, record: Option<Posting>, person: u8, branch: u8) -> u16
 }
 
 // Tells to which roles a part posts a person.
-pub fn roles_in(part: &[Option<Posting>], person: u8, branch: u8) -> u16
+pub(crate) fn roles_in(part: &[Option<Posting>], person: u8, branch: u8) -> u16
     ensures { (q : ℕ) → has_bit result q ≡ (nat_lt q 16 && among part.now (length part.now) person q branch) }
 {
     part.iter()

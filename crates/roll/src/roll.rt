@@ -15,7 +15,8 @@ use search::first;
 // The most postings that a branch may have.
 const MOST: u16 = 1024;
 
-// The records of all branches, and the share of each.
+// The records of all branches, and the share of each. The number of branches stands beside the shares, which may be more or fewer: `check`
+// says whether they are as many, and a branch without one has no room.
 #[derive(Drop)]
 pub struct Roll<'p, 's> {
     records: &'p mut [Option<Posting>],
@@ -25,7 +26,7 @@ pub struct Roll<'p, 's> {
     ghost kept: { KeptParts records.now shares.now branches },
 }
 
-// The share of a branch, or 0 of one that has none.
+// The share of a branch, or 0 of one that has none. The library's chain under the name of what it gives.
 fn share_at(shares: &[u16], branch: u8) -> u16
     ensures { result ≡ slice_index shares.now branch }
 {
