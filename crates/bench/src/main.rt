@@ -18,8 +18,8 @@ use std::{fs, io};
 // The bytes before a message's body.
 const HEADER: usize = 3;
 
-// Reads until the memory is full or the input has ended, and says how many bytes were read. Memory and not a `Vec` that grows by
-// `take(n).read_to_end(..)`: of that nothing is proved about how many bytes came.
+// Reads until the memory is full or the input has ended, and says how many bytes were read. Lent memory, and no `Vec` by
+// `take(n).read_to_end(..)`: how many bytes that gives is not proved.
 fn read_up_to<R: Read>(input: &mut R, memory: &mut [u8]) -> io::Result<usize>
     ensures { IfOk result (λ held. held ≤ length memory.old) }
 {
@@ -34,17 +34,17 @@ fn read_up_to<R: Read>(input: &mut R, memory: &mut [u8]) -> io::Result<usize>
     Ok(held)
 }
 
-// Reads the bytes of the next message, as many as there are of it, and says how many.
-fn next_message<R: Read>(input: &mut R, memory: &mut [u8; MESSAGE]) -> io::Result<usize>
-    ensures { IfOk result (λ held. held ≤ 17) }
+// Reads the bytes of the next message, as many as there are of it.
+fn next_message<'m, R: Read>(input: &mut R, memory: &'m mut [u8; MESSAGE]) -> io::Result<&'m [u8]>
+    ensures { IfOk result (λ bytes. length bytes.now ≤ 17) }
 {
-    let header = read_up_to(input, &mut memory[0..HEADER])?;
+    let header = read_up_to(input, &mut memory[..HEADER])?;
     if header < HEADER {
-        return Ok(header);
+        return Ok(&memory[..header]);
     }
-    let end = HEADER + wanted(&memory[0..HEADER]);
+    let end = HEADER + wanted(&memory[..HEADER]);
     let body = read_up_to(input, &mut memory[HEADER..end])?;
-    Ok(HEADER + body)
+    Ok(&memory[..HEADER + body])
 }
 
 // Shows one message, or says why it cannot be read; answers whether the run goes on.
@@ -67,8 +67,8 @@ fn take_messages<R: Read, W: Write>(input: &mut R, out: &mut W) -> io::Result<()
     let mut message = messages::blank();
     // A count in place of `loop`: an input may never end, and every loop has to.
     for _ in 0..u64::MAX {
-        let held = next_message(input, &mut memory)?;
-        if held == 0 || !take_message(&memory[0..held], &mut message, out)? {
+        let bytes = next_message(input, &mut memory)?;
+        if bytes.is_empty() || !take_message(bytes, &mut message, out)? {
             break;
         }
     }

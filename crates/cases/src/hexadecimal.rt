@@ -1,4 +1,5 @@
-// Bytes written in hexadecimal, in groups that may be repeated. Not by the kit's `hex`: what this program says of a wrong group stays.
+// Bytes written in hexadecimal, in groups that may be repeated. Not by the kit's `hex`, whose errors are
+// others than what this program says of a wrong group.
 ghost use Rattle.std.specs.Prelude.{◌<◌, IfOk};
 
 use anyhow::{Context, anyhow};

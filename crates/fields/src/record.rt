@@ -43,8 +43,8 @@ pub fn offset<T: Record>(first: u16, number: u16) -> u32
     first as u32 + T::WIDTH as u32 * number as u32
 }
 
-// Checks the records of a list, the first of them at `first`. (`first` and `count` stay two parameters here and in the next: a struct of
-// both would be made for the call, as `check_list::<Post>(bytes, (), List { first: POSTS_AT, count })`.)
+// Checks the records of a list, the first of them at `first`. `first` and `count` stay two parameters, here and in the two functions below:
+// a struct of both would be made for the call, as `check_list::<Post>(bytes, (), List { first: POSTS_AT, count })`.
 pub fn check_list<T: Record>(
     bytes: &[u8],
     scope: T::Scope,

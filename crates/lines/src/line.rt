@@ -35,7 +35,7 @@ fn lay_number(line: &mut [u8], at: usize, number: u16) -> usize
 }
 
 // Writes the line of a message from the start of the memory, and says how many bytes it has; the bytes behind it stay. The memory is the
-// caller's, who may write many lines in one place.
+// caller's, as lines are to be written (docs/DECISIONS.md, "Forms").
 pub fn write(word: Word, first: u16, second: u16, third: u16, line: &mut [u8; LINE]) -> usize
     ensures length { result ≡ length (line_of word first second third) }
     ensures bytes { line.new ≡ line_of word first second third ++ drop (length (line_of word first second third)) line.old }

@@ -28,7 +28,7 @@ pub(crate) fn width(kind: CallKind) -> u8
     }
 }
 
-// A piece stands in the two bytes at the offset: the one number that `check_below`, of a byte, does not reach.
+// A piece's number stands in the two bytes at the offset; `check_below` is for one byte.
 fn check_piece(bytes: &[u8], at: usize) -> Result<(), FieldFault>
     ensures { result ≡ piece_checked bytes.now at }
 {

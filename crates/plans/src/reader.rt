@@ -55,7 +55,7 @@ impl PlanFile<'_> {
         principal < layout.roles.count && role.may_stand(self.record(layout.branches, 0))
     }
 
-    // The count of a list, of so many bytes and within its bounds, and its records one after the other.
+    // Checks the count of a list, which has `width` bytes and is within its bounds, and then each record.
     fn check_records<T: Record<Scope = Layout>>(
         &self,
         list: Span,
@@ -127,7 +127,7 @@ impl PlanFile<'_> {
         Ok(())
     }
 
-    // No line of the list, which fits in an array, repeats the pair of an earlier one.
+    // No line of the list repeats the pair of an earlier one. The list fits in an array.
     #[tactic(auto, using(crate::proofs::Apart::looks_back))]
     fn check_lines(&self, list: Span) -> Result<(), PlanFault>
         requires { list.count ≤ 64 }

@@ -14,7 +14,7 @@ pub(crate) fn free_in(part: &[Option<Posting>]) -> Option<usize>
     part.iter().position(|record| record.is_none())
 }
 
-// Tells whether a record posts somebody else than a posting does, to the same role.
+// Tells whether a record posts another person than the posting's to the same role.
 pub(crate) fn is_other(record: Option<Posting>, posting: Posting) -> bool
     ensures { result ≡ is_other «record» posting.person posting.role }
 {

@@ -88,7 +88,8 @@ impl<'p, 's> Roll<'p, 's> {
         }
     }
 
-    // Where the part of a branch starts. The records are in memory, so that their count fits.
+    // Where the part of a branch starts: behind the parts before it, or where the records end. They are in memory (`fits`), so that no sum of
+    // places wraps.
     fn start(&self, branch: u8) -> usize
         ensures fits { length self.now.records.now < 18446744073709551616 }
         ensures place { result ≡ roll_start (length self.now.records.now) self.now.shares.now branch }
@@ -156,7 +157,8 @@ impl<'p, 's> Register for Roll<'p, 's> {
         roles_in(self.part(branch), person, branch)
     }
 
-    // A `for` over the records: of those that post somebody else to the role, no two post the same person.
+    // Counts in a `for` over the records, as others are to be counted (docs/DECISIONS.md, "Forms"). No two records of a part post the same
+    // person to a role, so that each counts once.
     fn others(&self, posting: Posting) -> u8 {
         let mut count = 0;
         if posting.person < PERSONS {
