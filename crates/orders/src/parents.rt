@@ -21,7 +21,7 @@ pub struct Parents {
     ghost sound: { is_ok (parents_checked parents count) ≡ true },
 }
 
-// Why parents make no order.
+// Why parents make no order; apart from why rows make none, as said there.
 #[derive(Clone, Copy)]
 pub enum ParentsFault {
     // more members than an order by parents has

@@ -21,7 +21,8 @@ pub struct Rows {
     ghost sound: { is_ok (rows_checked 16 rows count) ≡ true },
 }
 
-// Why rows make no order.
+// Why rows make no order. This and `Rows::new` stay apart from those of `Parents`: a generic making would take the test of a member and the
+// fault, which are all of it, as parameters.
 #[derive(Clone, Copy)]
 pub enum RowsFault {
     // more members than a row has bits
