@@ -55,7 +55,7 @@ fn none_over(shares: &[u16], branches: u8) -> bool
 }
 
 impl<'p, 's> Roll<'p, 's> {
-    // Checks the shares, and that the records are enough for them.
+    // Checks the shares, and that the records are enough for them. This and `new` take the three fields that a roll is made of.
     pub fn check(
         records: &[Option<Posting>],
         shares: &[u16],
