@@ -7,6 +7,7 @@ use messages::{COUNT_AT, MessageFault, POSTS, POSTS_AT, Post};
 use refusals::must;
 
 // Says the first thing that keeps the post from being added behind those before it.
+#[tactic(auto, using(messages::proofs::Apart::new_post_is))]
 pub(crate) fn check_add(before: &[Post], post: Post) -> Result<(), MessageFault>
     ensures { result ≡ add_result before.now post }
 {

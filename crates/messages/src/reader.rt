@@ -30,6 +30,13 @@ fn check_call(bytes: &[u8]) -> Result<CallKind, FieldFault>
     CallKind::try_from(byte(bytes, CALL_AT))
 }
 
+// Tells whether somebody may sit under so many posts.
+fn may_sit(count: u8) -> bool
+    ensures { result ≡ within 1 count 4 }
+{
+    (1..=POSTS as u8).contains(&count)
+}
+
 // Checks each field of a message that has so many posts, and that nothing stands behind the last; says the kind of call.
 fn check_fields(bytes: &[u8], count: u8) -> Result<CallKind, FieldFault>
     ensures answer { verdict result ≡ in_order (field_steps bytes.now (byte_at bytes.now 3) count) }
@@ -39,7 +46,7 @@ fn check_fields(bytes: &[u8], count: u8) -> Result<CallKind, FieldFault>
     header(bytes, BODY)?;
     let kind = check_call(bytes)?;
     check_below(bytes, PERSON_AT, PERSONS as u16)?;
-    field(bytes, COUNT_AT, 1, (1..=POSTS as u8).contains(&count))?;
+    field(bytes, COUNT_AT, 1, may_sit(count))?;
     check_list::<Post>(bytes, (), POSTS_AT, count as u16)?;
     let arguments = offset::<Post>(POSTS_AT, count as u16);
     check_arguments(bytes, kind, arguments)?;

@@ -5,7 +5,7 @@ ghost use Rattle.messages.specs.declared.post.Post.{Post as Posted};
 
 use crate::draft::Empty;
 use arrayvec::ArrayVec;
-use messages::{POSTS, Post, Sitting};
+use messages::{Call, Message, POSTS, Post, Sitting};
 use std::marker::Model;
 
 // One to four posts, no two of them the same.
@@ -28,7 +28,7 @@ impl Model for Filled {
 
 impl Filled {
     // The sitting of the person under the posts.
-    pub(crate) fn seat(&self, person: u8) -> Sitting
+    fn seat(&self, person: u8) -> Sitting
         ensures person { result.person ≡ person }
         ensures posts { take result.count result.posts ≡ self.now }
     {
@@ -38,6 +38,18 @@ impl Filled {
             person,
             count: self.posts.len() as u8,
             posts,
+        }
+    }
+
+    // The message of the person, with the call.
+    pub(crate) fn message(&self, person: u8, call: Call) -> Message
+        ensures person { result.sitting.person ≡ person }
+        ensures posts { take result.sitting.count result.sitting.posts ≡ self.now }
+        ensures call { result.call ≡ call }
+    {
+        Message {
+            sitting: self.seat(person),
+            call,
         }
     }
 }
@@ -79,6 +91,7 @@ impl TakesPosts for Filled {
         &self.posts
     }
 
+    #[tactic(auto, using(crate::proofs::Apart::apart_more))]
     fn with(mut self, post: Post) -> Filled {
         self.posts.push(post);
         self

@@ -11,7 +11,7 @@ use crate::draft::filled::TakesPosts;
 use crate::draft::{Draft, Empty, Filled, Finished};
 use crate::posts::check_add;
 use fields::{FieldFault, PERSONS};
-use messages::{Call, MESSAGE, Message, MessageFault, PERSON_AT, Post, write};
+use messages::{Call, MESSAGE, MessageFault, PERSON_AT, Post, write};
 
 impl<'m> Draft<'m, Empty> {
     // Begins a draft for the person, or gives the memory back with what is wrong.
@@ -76,11 +76,7 @@ impl<'m> Draft<'m, Filled> {
             person,
             state,
         } = self;
-        let message = Message {
-            sitting: state.seat(person),
-            call,
-        };
-        match write(&message, memory) {
+        match write(&state.message(person, call), memory) {
             Ok(length) => Ok(Draft {
                 memory,
                 person,

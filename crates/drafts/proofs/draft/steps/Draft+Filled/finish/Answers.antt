@@ -9,13 +9,13 @@ use Rattle.drafts.proofs.draft.steps.Draft+Filled.finish.Goals as goal
 pub returns-in-Ok : goal.returns-in-Ok
 returns-in-Ok c =
     let draft = c.args.self in
-    let says = finish_is draft c.args.call c.seat.result (search rules) c.seat.ensures.person c.seat.ensures.posts in
+    let says = finish_is draft c.args.call c.message.result.sitting (search rules) c.message.ensures.person c.message.ensures.posts in
     let answer : ◌≡◌ {A = Result (Unit {0}) MessageFault} (Ok tt) (finish_result (length draft.memory.now) (length draft.state) (said_with draft c.args.call)) = search rules in
     record { answer = answer; leaves = search rules; arguments = λ begun. answer ∙ begun_says draft c.args.call begun; read_back = search rules }
 
 pub returns-in-Err : goal.returns-in-Err
 returns-in-Err c =
     let draft = c.args.self in
-    let says = finish_is draft c.args.call c.seat.result (search rules) c.seat.ensures.person c.seat.ensures.posts in
+    let says = finish_is draft c.args.call c.message.result.sitting (search rules) c.message.ensures.person c.message.ensures.posts in
     let answer : ◌≡◌ {A = Result (Unit {0}) MessageFault} (Err c.in-Err.fault) (finish_result (length draft.memory.now) (length draft.state) (said_with draft c.args.call)) = search rules in
     record { answer = answer; leaves = search rules; arguments = λ begun. answer ∙ begun_says draft c.args.call begun; read_back = search rules }
