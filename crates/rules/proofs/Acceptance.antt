@@ -28,7 +28,7 @@ use Rattle.rules.proofs.SightFacts.{finds_in, none_seen, over_one, over_post, ov
 use Rattle.rules.proofs.CallFacts.{decided_allowed, enrolled_allowed, forbidden_allowed, granted_allowed, opened_allowed, permitted_allowed, shut_allowed, struck_allowed, taken_allowed}
 
 -- at a branch that does not exist no candidate is seen
-no_candidate : (w : Setup) (s : State) (c : Said) (t : ℕ) → is_branch w t ≡ false → some_place c (sight w s c t).candidate ≡ true → ⊥
+pub no_candidate : (w : Setup) (s : State) (c : Said) (t : ℕ) → is_branch w t ≡ false → some_place c (sight w s c t).candidate ≡ true → ⊥
 no_candidate w s c t lacks some =
     let found = any_some (sight w s c t).candidate (length c.posts) some in
     both_ways ((sight w s c t).candidate found.0) (none_seen w s c t found.0 lacks) found.2
@@ -47,7 +47,7 @@ module _ (w : Setup) (law : Orderly w) (s : State) where
       Decides-at (is_ok (row (sight w s c t))) (is_ok (row (view w s c t))) (ap (λ v. is_ok (row v)) e) d
 
   -- throughout finds something exactly when the person holds the role
-  found_held :
+  pub found_held :
       (sitter person role branch : ℕ) (posts : List Post)
       → let c : Said = record { person = sitter; posts = posts; call = Throughout person role branch } in
       Known w c → Decides (ltb 0 (postings_of w (finds w (sight w s c) person role branch))) (Holds w s person role branch)
@@ -89,23 +89,32 @@ module _ (w : Setup) (law : Orderly w) (s : State) where
       (λ place h. candidate_counts w law s c branch place))))
       (λ p. decides_before _ _ (decides_must _ _ (found_held sitter person role branch posts k)) (λ p. decides_none)))
 
-  -- sit sees every post
+  -- sit sees of every post whether it counts
+  pub counting_seen :
+      (sitter : ℕ) (posts : List Post)
+      → let c : Said = record { person = sitter; posts = posts; call = Sit } in
+      Known w c → (place : ℕ) → place < length posts
+      → Decides ((sight w s c (post_at posts place).branch).counting place) (Counts w s sitter (post_at posts place))
+  unfolding view
+  counting_seen sitter posts k place h =
+      let c : Said = record { person = sitter; posts = posts; call = Sit } in
+      let own = (post_at posts place).branch in
+      let counted = counts w s sitter (post_at posts place) in
+      Decides-at ((sight w s c own).counting place) (eqb own own && counted)
+      (ap (λ v. v.counting place) (sight_view w s c own k (over_post w law posts place h (k.posts place h).1)))
+      (Decides-like (eqb own own && counted) (λ x. x.1) (λ x. (refl, x))
+      (Decides-and (eqb own own) counted (Decides-eqb own own) (counts_held w law s sitter (post_at posts place))))
+
   seated_allowed :
       (sitter : ℕ) (posts : List Post)
       → let c : Said = record { person = sitter; posts = posts; call = Sit } in
       Known w c → Decides (is_ok (sit_row w c (sight w s c))) (MaySit w s c)
-  unfolding sit_row view
+  unfolding sit_row
   seated_allowed sitter posts k =
       let c : Said = record { person = sitter; posts = posts; call = Sit } in
-      let own : ℕ → ℕ = λ place. (post_at posts place).branch in
-      let counting : ℕ → Bool = λ place. (sight w s c (own place)).counting place in
-      let counted : ℕ → Bool = λ place. counts w s sitter (post_at posts place) in
+      let counting : ℕ → Bool = λ place. (sight w s c (post_at posts place).branch).counting place in
       let Counting : ℕ → Type 0 = λ place. Counts w s sitter (post_at posts place) in
-      let each : (place : ℕ) → place < length posts → Decides (counting place) (Counting place) = λ place h.
-      Decides-at (counting place) (eqb (own place) (own place) && counted place)
-      (ap (λ v. v.counting place) (sight_view w s c (own place) k (over_post w law posts place h (k.posts place h).1)))
-      (Decides-like (eqb (own place) (own place) && counted place) (λ x. x.1) (λ x. (refl, x))
-      (Decides-and (eqb (own place) (own place)) (counted place) (Decides-eqb (own place) (own place)) (counts_held w law s sitter (post_at posts place)))) in
+      let each : (place : ℕ) → place < length posts → Decides (counting place) (Counting place) = counting_seen sitter posts k in
       let missing = is_some (first_below (length posts) (λ place. not (counting place))) in
       Decides-like (is_ok (sit_row w c (sight w s c)))
       (λ x. x.0)

@@ -24,16 +24,24 @@ use Rattle.rules.proofs.WordFacts.{belongs_enrolment, candidate_counts, commande
 use Rattle.rules.proofs.PlaceFacts.{met_served, permitted_below, principal_led, served_place_lem, some_candidate, some_led}
 use Rattle.rules.proofs.SightFacts.{branch_parts}
 
--- the register takes a posting that is new, where its branch has room
+-- the register takes a posting whose numbers it has and that is new, where its branch has room
+pub put_decided :
+    (posted : Postings) (places : ℕ) (share : ℕ → ℕ) (person role branch : ℕ)
+    → Decides (is_ok (put_checked posted places share person role branch))
+    (((ltb person 64 ≡ true) × (ltb role 16 ≡ true) × (ltb branch places ≡ true))
+    × ((posted person role branch ≡ false) × ((postings_at posted branch < share branch) × Unit {0})))
+put_decided posted places share person role branch =
+    decides_then _ _ (three_tests (ltb person 64) (ltb role 16) (ltb branch places) _ _ _)
+    (decides_then _ _ (decides_must _ _ (decides_false (posted person role branch)))
+    (decides_then _ (Ok tt) (decides_must _ _ (Decides-ltb (postings_at posted branch) (share branch))) decides_none))
+
 put_room :
     (posted : Postings) (places : ℕ) (share : ℕ → ℕ) (person role branch : ℕ)
     → (ltb person 64 ≡ true) × (ltb role 16 ≡ true) × (ltb branch places ≡ true)
     → Decides (is_ok (put_checked posted places share person role branch)) ((posted person role branch ≡ false) × (postings_at posted branch < share branch))
 put_room posted places share person role branch known =
     Decides-like (is_ok (put_checked posted places share person role branch)) (λ x. (x.1.0, x.1.1.0)) (λ x. (known, (x.0, (x.1, tt))))
-    (decides_then _ _ (three_tests (ltb person 64) (ltb role 16) (ltb branch places) _ _ _)
-    (decides_then _ _ (decides_must _ _ (decides_false (posted person role branch)))
-    (decides_then _ (Ok tt) (decides_must _ _ (Decides-ltb (postings_at posted branch) (share branch))) decides_none)))
+    (put_decided posted places share person role branch)
 
 -- and gives up one that it has
 take_there :
@@ -45,7 +53,7 @@ take_there posted places person role branch known =
     (decides_then _ _ (three_tests (ltb person 64) (ltb role 16) (ltb branch places) _ _ _) (test_first (posted person role branch) _ (Ok tt) decides_none))
 
 -- a posting that exists has the register's numbers
-register_numbers :
+pub register_numbers :
     (w : Setup) (person role branch : ℕ)
     → KnownPosting w person role branch
     → (ltb person 64 ≡ true) × (ltb role 16 ≡ true) × (ltb branch w.register_branches ≡ true)

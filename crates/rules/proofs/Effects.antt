@@ -55,7 +55,7 @@ three_same a b c x y z =
     Decides-like (eqb x a && (eqb y b && eqb z c)) (λ e. (e.0, e.1.0, e.1.1)) (λ e. (e.0, (e.1, e.2)))
     (Decides-and (eqb x a) (eqb y b && eqb z c) (Decides-eqb x a) (two_same b c y z))
 
-same_posting_lem : (person role branch x y z : ℕ) → Decides (same_posting person role branch x y z) ((x ≡ person) × (y ≡ role) × (z ≡ branch))
+pub same_posting_lem : (person role branch x y z : ℕ) → Decides (same_posting person role branch x y z) ((x ≡ person) × (y ≡ role) × (z ≡ branch))
 same_posting_lem person role branch x y z =
     Decides-like (same_posting person role branch x y z) (λ e. (e.1, e.2, e.0)) (λ e. (e.2, e.0, e.1)) (three_same branch person role z x y)
 

@@ -1,13 +1,18 @@
 -- The proofs of the promises about the rules: single calls first, then whole lists of calls.
 pub mod RowFacts
+pub mod ReasonFacts
 pub mod WordFacts
 pub mod PlaceFacts
 pub mod KnownFacts
+pub mod MissingFacts
+pub mod CallReasons
 pub mod SightFacts
 pub mod CallFacts
 pub mod Acceptance
+pub mod Reasoned
 pub mod Effects
 pub mod Counts
+pub mod Begun
 pub mod Locality
 pub mod CallKinds
 pub mod Idle

@@ -45,7 +45,7 @@ module _ (w : Setup) (law : Orderly w) (s : State) (c : Said) (t : ℕ) where
   pub some_candidate : is_branch w t ≡ true → (place : ℕ) → Candidate w s c t place → some_place c (candidate w s c t) ≡ true
   some_candidate known place x = any_at (candidate w s c t) (length c.posts) place x.sits ((candidate_counts w law s c t place).1 (known, x))
 
-  governs_for :
+  pub governs_for :
       (lines : Lines) (role place number : ℕ)
       → Decides (governs w c lines role place number)
       (((line_at lines number).governed ≡ role) × (outranks w (post_at c.posts place).role (line_at lines number).governing ≡ true))

@@ -10,6 +10,7 @@ pub mod Calls
 pub mod Runs
 pub mod Conditions
 pub mod Changes
+pub mod Reasons
 pub mod Promises
 pub mod Isolation
 pub mod Sold

@@ -1,14 +1,16 @@
 -- The promises about single calls: accepted exactly when the conditions hold, then exactly the change, and what throughout counts.
-use Rattle.std.specs.Prelude.{◌≡◌, ℕ, Bool, true, false, not, ◌&&◌, List, is_ok, Ok, Decides}
+use Rattle.std.specs.Prelude.{◌≡◌, ℕ, ◌<◌, Bool, true, false, not, ◌&&◌, List, is_ok, Ok, Decides}
 use Rattle.messages.specs.Said.{Said}
 use Rattle.messages.specs.declared.call.Call.TheVariants.{Decide, Throughout}
 use Rattle.messages.specs.declared.post.Post.{Post}
 use Rattle.rules.specs.Choices.{postings_of}
 use Rattle.rules.specs.Changes.{Makes}
 use Rattle.rules.specs.Conditions.{Allowed, CanAccess, Known}
+use Rattle.rules.specs.Reasons.{Lowest, Missing, Reasoned, Refuses}
 use Rattle.rules.specs.Runs.{answer, next}
-use Rattle.rules.specs.Setup.{Lawful, Setup, State, outranks, over}
+use Rattle.rules.specs.Setup.{Lawful, Setup, State, new, outranks, over}
 use Rattle.rules.specs.declared.answer.Accepted.TheVariants.{Cleared}
+use Rattle.rules.specs.declared.fault.EngineFault.TheVariants.{NoSuchNumber}
 
 -- both orders keep the laws
 pub record Orderly (w : Setup) : Type 0 where
@@ -51,3 +53,23 @@ CountedThroughout =
     (Cleared
     (postings_of w (λ o q. found_in w s person role branch o q && not ((next w s c).posted person q o)))
     (postings_of w (λ o q. found_in w s person role branch o q && (next w s c).posted person q o)))
+
+-- a new state has the founding posting alone, and has it where the register has that role, a branch 0, and room for one posting there
+pub record NewAsSold (w : Setup) : Type 0 where
+  pub posted : (x y z : ℕ) →
+      Decides ((new w).posted x y z)
+      (((x ≡ 0) × (y ≡ w.plan.principal) × (z ≡ 0)) × ((w.plan.principal < 16) × (0 < w.register_branches) × (0 < w.share 0)))
+  -- nobody is enrolled, every mark is open, and there are no permits
+  pub enrolled : (x z : ℕ) → (new w).enrolled x z ≡ false
+  pub closed : (z : ℕ) → (new w).closed z ≡ false
+  pub permitted : (x y z : ℕ) → (new w).permitted x y z ≡ false
+
+-- so it is of everything that is sold
+abbrev pub BeginsAsSold : Type 0
+BeginsAsSold = (w : Setup) → NewAsSold w
+
+-- every answer has its reason: a refusal tells the first of the call's reasons that holds, after the numbers that name nothing, and of what
+-- it holds; an acceptance, for which none holds, names the first candidate and the lowest line or role
+abbrev pub AnsweredForItsReason : Type 0
+AnsweredForItsReason =
+    (w : Setup) → Orderly w → (s : State) (c : Said) → Refuses (Lowest (Missing w c)) NoSuchNumber (Reasoned w s c c.call) (answer w s c)

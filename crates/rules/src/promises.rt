@@ -1,5 +1,10 @@
 // The promises about the rules, each named by a contract.
-ghost use Rattle.rules.specs.Promises.{AcceptedWhenAllowed, CountedThroughout, DecidedAsModelled, MakesItsChange, RefusedChangesNothing};
+ghost use Rattle.rules.specs.Promises.{AcceptedWhenAllowed, AnsweredForItsReason, BeginsAsSold, CountedThroughout, DecidedAsModelled, MakesItsChange, RefusedChangesNothing};
+
+// A new state has the founding posting and no other, nobody enrolled, every mark open and no permits.
+pub fn begins_as_sold()
+    ensures { BeginsAsSold }
+{}
 
 // A call is accepted exactly when all that it names exists and its conditions hold.
 pub fn accepted_when_allowed()
@@ -24,4 +29,9 @@ pub fn refused_changes_nothing()
 // The two numbers of throughout: how many of the postings found are gone after it, and how many are still there.
 pub fn counted_throughout()
     ensures { CountedThroughout }
+{}
+
+// Every answer has its reason: a refusal tells the first that holds, and an acceptance names the first candidate.
+pub fn answered_for_its_reason()
+    ensures { AnsweredForItsReason }
 {}
