@@ -113,6 +113,7 @@ impl<'c> Register for Grid<'c> {
         others_in(self.row(posting.branch), posting) as u8
     }
 
+    #[tactic(auto, using(crate::proofs::GridFacts::grid_put))]
     fn put(&mut self, posting: Posting) -> Result<(), RegisterFault> {
         posting.check(self.branch_count())?;
         let at = place(posting.person, posting.branch);
