@@ -1,10 +1,10 @@
--- What sets of postings say: how many a branch has, with one more too, and what a put and a take answer.
+-- What sets of postings say: how many a branch has, with one more too, and what a put answers.
 use Rattle.std.proofs.Common.{◌≡◌, ℕ, ◌+◌, ◌<◌, ◌≤◌, Bool, true, false, cond, not, ◌&&◌, ◌||◌, eqb, ltb, is_err, IfOk, Ok, Err, Result, sym, ap, ◌∙◌, subst, inl, inr, arith}
 use Rattle.refusals.proofs.Rows.{must_of, passed_all}
 use Rattle.refusals.specs.Checks.{in_order, must, then}
-use Rattle.registers.specs.Meaning.{Inside, Postings, added, number_steps, others_at, postings_at, put_checked, same_posting, take_checked}
+use Rattle.registers.specs.Meaning.{Inside, Postings, added, number_steps, others_at, postings_at, put_checked, same_posting}
 use Rattle.registers.specs.declared.fault.RegisterFault.{RegisterFault}
-use Rattle.registers.specs.declared.fault.RegisterFault.TheVariants.{NoPerson, NoRole, NoBranch, Posted, NotPosted, Full}
+use Rattle.registers.specs.declared.fault.RegisterFault.TheVariants.{NoPerson, NoRole, NoBranch, Posted, Full}
 use Rattle.search.proofs.Sums.{sum_less, sum_most, sum_raised, sum_same}
 use Rattle.search.specs.Searches.{count_below}
 use Rattle.std.proofs.lemmas.Bool.{and_right, cases_Bool, cases_lt, cond-false, cond-true, le-ltb, lt-ltb, true≢false}
@@ -99,7 +99,7 @@ others_none posted branches person role branch inside refused =
           | inr none ↦ none
         ]
 
--- what a put and a take answer of a person, a role and a branch that the register has
+-- what a put answers of a person, a role and a branch that the register has
 module _ (posted : Postings) (branches : ℕ) (share : ℕ → ℕ) (person role branch : ℕ) (own-person : person < 64) (own-role : role < 16) (own-branch : branch < branches) where
   numbers : in_order (number_steps branches person role branch) ≡ Ok tt
   numbers =
@@ -116,7 +116,3 @@ module _ (posted : Postings) (branches : ℕ) (share : ℕ → ℕ) (person role
   -- a put that is done
   pub put_passes : posted person role branch ≡ false → postings_at posted branch < share branch → put_checked posted branches share person role branch ≡ Ok tt
   put_passes absent room = past_posted absent ∙ ap (λ b. then (must b (Full branch)) (Ok tt)) (lt-ltb (postings_at posted branch) (share branch) room)
-
-  -- a take of what is there
-  pub take_passes : posted person role branch ≡ true → take_checked posted branches person role branch ≡ Ok tt
-  take_passes there = ap (λ n. then n (then (must (posted person role branch) (NotPosted branch)) (Ok tt))) numbers ∙ ap (λ b. then (must b (NotPosted branch)) (Ok tt)) there
