@@ -143,7 +143,19 @@ fn unfit_memory(rt: HostRuntime) {
         numbers(22, 4, 5)
     );
     assert_eq!(rt;
+        told(Roll::check(&[None; 5], &[3, 2], 1)),
+        numbers(22, 4, 5)
+    );
+    assert_eq!(rt;
         told(Roll::check(&[None; 5], &[0, 2], 2)),
         numbers(22, 4, 5)
+    );
+    assert_eq!(rt;
+        told(Roll::check(&[None; 1025], &[1024], 1)),
+        numbers(0, 0, 0)
+    );
+    assert_eq!(rt;
+        told(Roll::check(&[None; 1025], &[1025], 1)),
+        numbers(22, 4, 1025)
     );
 }
