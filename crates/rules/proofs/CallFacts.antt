@@ -9,19 +9,19 @@ use Rattle.plans.specs.Set.{no_set}
 use Rattle.registers.specs.Meaning.{Postings, others_at, postings_at, put_checked, take_checked}
 use Rattle.messages.specs.Said.{Said}
 use Rattle.rules.specs.Calls.{close_row, decide_row, enrol_row, forbid_row, grant_row, open_row, permit_row, principal_steps, strike_row, take_row}
-use Rattle.rules.specs.Choices.{full_set, grant_lines, roles_of_set, served_place, some_place, take_lines}
-use Rattle.rules.specs.Conditions.{CanAccess, Candidate, Commander, KnownPosting, Led, MayEnrol, MayGrant, MayMark, MayPermit, MayStrike, MayTake, roles_then}
+use Rattle.rules.specs.Choices.{Lines, full_set, grant_lines, roles_of_set, served_place, some_place, take_lines}
+use Rattle.rules.specs.Conditions.{CanAccess, Candidate, Commander, KnownPosting, Led, MayEnrol, MayGrant, MayMark, MayPermit, MayStrike, MayTake, Served, roles_then}
 use Rattle.rules.specs.Promises.{Orderly}
+use Rattle.rules.specs.Reasons.{SomeCandidate}
 use Rattle.rules.specs.Rows.{Check, before}
 use Rattle.rules.specs.Setup.{Setup, State, home_of, is_branch, piece_of, may_stand_at}
 use Rattle.rules.specs.Views.{candidate, commander, view}
-use Rattle.rules.specs.Words.{post_at}
 use Rattle.rules.specs.declared.answer.Accepted.{Accepted}
 use Rattle.rules.specs.declared.fault.EngineFault.{EngineFault}
 use Rattle.rules.specs.declared.fault.EngineFault.TheVariants.{Closed, TooManyOf}
 use Rattle.rules.proofs.RowFacts.{decides_before, decides_false, decides_first, decides_must, decides_none, decides_refuse, decides_register, decides_self, decides_then, test_first, three_tests}
 use Rattle.rules.proofs.WordFacts.{belongs_enrolment, candidate_counts, commander_leads, open_unbarred}
-use Rattle.rules.proofs.PlaceFacts.{met_served, permitted_below, principal_led, served_place_lem, some_candidate, some_led}
+use Rattle.rules.proofs.PlaceFacts.{leader, met_is_served, met_served, permitted_found, served_found, some_fits}
 use Rattle.rules.proofs.SightFacts.{branch_parts}
 
 -- the register takes a posting whose numbers it has and that is new, where its branch has room
@@ -69,8 +69,8 @@ led_steps :
     → Decides (is_ok (in_order (principal_steps w c candidates branch))) (Led w c Fits)
 led_steps w c known candidates Fits branch sits is each =
     Decides-like (is_ok (in_order (principal_steps w c candidates branch))) (λ x. x.1.0)
-    (λ led. (some_led w c known candidates Fits sits is each led, (led, tt)))
-    (test_first (some_place c candidates) _ _ (decides_then _ (Ok tt) (decides_must _ _ (principal_led w c known candidates Fits sits is each)) decides_none))
+    (λ led. ((some_fits w c known is candidates Fits sits each).1 (is, (led.place, led.candidate)), (led, tt)))
+    (test_first (some_place c candidates) _ _ (decides_then _ (Ok tt) (decides_must _ _ (leader w c known is candidates Fits sits each)) decides_none))
 
 -- and then one test is left
 led_and :
@@ -82,7 +82,21 @@ led_and steps test fault accepted led d =
     Decides-like (is_ok (before steps (before (must test fault) (Ok accepted)))) (λ x. (x.0, x.1.0)) (λ x. (x.0, (x.1, tt)))
     (decides_before steps _ led (λ p. decides_before _ _ (decides_must test fault d) (λ q. decides_none)))
 
+-- whoever is served by a line that is met is served
+served_is :
+    (w : Setup) (law : Orderly w) (s : State) (c : Said) (t : ℕ) (lines : Lines) (person role : ℕ)
+    → is_branch w t ≡ true
+    → Served w s c lines person role t
+    → is_some (served_place w c (view w s c t) lines role) ≡ true
+served_is w law s c t lines person role is x =
+    let served = met_is_served w law s c t lines person role x in
+    (served_found w law s c t lines person role).1 (served.0, (is, served.1))
+
 module _ (w : Setup) (law : Orderly w) (s : State) (c : Said) where
+  -- there is a candidate for a branch that exists
+  pub candidate_fits : (t : ℕ) → is_branch w t ≡ true → Decides (some_place c (candidate w s c t)) (SomeCandidate w s c t)
+  candidate_fits t is = some_fits w c (is_branch w t ≡ true) is (candidate w s c t) (Candidate w s c t) (λ place x. x.sits) (candidate_counts w law s c t)
+
   -- decide
   pub decided_allowed :
       (operation piece : ℕ)
@@ -94,33 +108,29 @@ module _ (w : Setup) (law : Orderly w) (s : State) (c : Said) where
       Decides-like (is_ok (decide_row w c (view w s c t) operation piece))
       (λ x.
       let found = x.1.1.0 in
-      let permit = found.2.1 in
+      let permit = found.1.1.1 in
       record {
         home = known;
         place = found.0;
         role = permit.0;
-        candidate = found.2.0.1;
-        below = permit.2.0;
-        permit = permit.2.1;
+        candidate = found.1.1.0;
+        below = permit.1.0;
+        permit = permit.1.1;
         unbarred = x.1.0;
       })
       (λ x. (
-        some_candidate w law s c t known x.place x.candidate,
+        (candidate_fits t known).1 (known, (x.place, x.candidate)),
         (
           x.unbarred,
           (
-            (
-              x.place,
-              x.candidate.sits,
-              ((known, x.candidate), (x.role, (law.roles.inside (post_at c.posts x.place).role x.role x.below).1, (x.below, x.permit))),
-            ),
+            (x.place, (known, (x.candidate, (x.role, (x.below, x.permit))))),
             tt,
           ),
         ),
       ))
       (decides_before _ _ (decides_must _ _ (decides_self (some_place c (candidate w s c t))))
       (λ p. decides_before _ _ (decides_refuse Closed _ (open_unbarred w law s t))
-      (λ p. decides_before _ _ (decides_must _ _ (permitted_below w law s c t operation (piece_of w piece).kind)) (λ p. decides_none))))
+      (λ p. decides_before _ _ (decides_must _ _ (permitted_found w law s c t operation (piece_of w piece).kind)) (λ p. decides_none))))
 
   -- sets and limits
   full_sets :
@@ -166,9 +176,9 @@ module _ (w : Setup) (law : Orderly w) (s : State) (c : Said) where
       let candidate = x.served.candidate in (
         x.stands,
         (
-          some_candidate w law s c branch is x.served.place candidate,
+          (candidate_fits branch is).1 (is, (x.served.place, candidate)),
           (
-            served_place_lem w law s c branch (grant_lines w) person role is x.served,
+            served_is w law s c branch (grant_lines w) person role is x.served,
             (x.unbarred, (x.belongs, ((is, x.served), ((x.sets, (x.limit, tt)), ((x.fresh, x.room), tt))))),
           ),
         ),
@@ -199,8 +209,8 @@ module _ (w : Setup) (law : Orderly w) (s : State) (c : Said) where
       (λ x. record { served = x.1.1.0.1; posted = x.1.1.1.0 })
       (λ x.
       let is = known.2 in (
-        some_candidate w law s c branch is x.served.place x.served.candidate,
-        (served_place_lem w law s c branch (take_lines w) person role is x.served, ((is, x.served), (x.posted, tt))),
+        (candidate_fits branch is).1 (is, (x.served.place, x.served.candidate)),
+        (served_is w law s c branch (take_lines w) person role is x.served, ((is, x.served), (x.posted, tt))),
       ))
       (decides_before _ _ (decides_must _ _ (decides_self (some_place c (candidate w s c branch))))
       (λ p. decides_before _ _ (decides_must _ _ (decides_self (is_some (served_place w c v (take_lines w) role))))

@@ -2,10 +2,9 @@
 use Rattle.std.proofs.Common.{◌≡◌, ℕ, ◌<◌, Bool, true, false, not, ◌&&◌, ltb, leb, length, get_or, is_some, Ok, Decides, sym, refl, ap, ◌∙◌, subst}
 use Rattle.std.specs.Option.{unwrap_or}
 use Rattle.std.proofs.lemmas.Bool.{le-leb, leb-true}
-use Rattle.std.proofs.lemmas.Bool.Decides.{Decides-and, Decides-like, Decides-ltb, not_from_Decides}
+use Rattle.std.proofs.lemmas.Bool.Decides.{Decides-like, Decides-ltb, not_from_Decides}
 use Rattle.refusals.proofs.Rows.{must_of, passed_all}
 use Rattle.refusals.specs.Checks.{in_order, must, then}
-use Rattle.search.specs.Searches.{any_below}
 use Rattle.plans.specs.Role.{no_role}
 use Rattle.plans.specs.Set.{no_set}
 use Rattle.registers.specs.Meaning.{Postings, number_steps, others_at, postings_at, put_checked, take_checked}
@@ -14,58 +13,43 @@ use Rattle.registers.specs.declared.fault.RegisterFault.TheVariants.{NoPerson, N
 use Rattle.messages.specs.Said.{Said}
 use Rattle.rules.specs.Answers.{Answer}
 use Rattle.rules.specs.Calls.{line_answer, principal_answer, principal_steps}
-use Rattle.rules.specs.Choices.{Lines, full_set, governs, governs_met, has_permit, line_at, met_line, met_place, permitted_place, permitted_role, principal_place, roles_of_set, served_place, serving_line, sets_and_limits, some_place}
-use Rattle.rules.specs.Conditions.{Candidate, roles_then}
+use Rattle.rules.specs.Choices.{Lines, full_set, has_permit, met_line, met_place, permitted_place, permitted_role, principal_place, roles_of_set, served_place, serving_line, sets_and_limits, some_place}
+use Rattle.rules.specs.Conditions.{Led, Served, roles_then}
 use Rattle.rules.specs.Promises.{Orderly}
 use Rattle.rules.specs.Reasons.{Accepts, Bars, Lacks, LeadsAt, Lowest, MeetsNone, MetAt, NamesLeader, NamesLine, NamesRole, Permits, PermittedAt, Refuses, ServedAt, Serves, ServesMet, TooMany}
 use Rattle.rules.specs.Rows.{before, by_register, refuse_at}
-use Rattle.rules.specs.Setup.{Setup, State, is_branch, outranks, over}
-use Rattle.rules.specs.Views.{candidate, view}
-use Rattle.rules.specs.Words.{closed_over, holds, post_at}
+use Rattle.rules.specs.Setup.{Setup, State, is_branch, over}
+use Rattle.rules.specs.Views.{view}
+use Rattle.rules.specs.Words.{closed_over}
 use Rattle.rules.specs.declared.answer.Accepted.TheVariants.{Allowed}
 use Rattle.rules.specs.declared.fault.EngineFault.TheVariants.{NoCandidate, NotGoverned, Closed, TooManyOf, LimitReached, Register}
-use Rattle.rules.proofs.RowFacts.{decides_any, decides_false, decides_self}
-use Rattle.rules.proofs.WordFacts.{candidate_counts, decides_both, meets_held}
-use Rattle.rules.proofs.PlaceFacts.{governs_for}
-use Rattle.rules.proofs.ReasonFacts.{found_some, lowest_told, row_inside, searched, wanted}
+use Rattle.rules.proofs.RowFacts.{decides_false, decides_self}
+use Rattle.rules.proofs.WordFacts.{decides_both}
+use Rattle.rules.proofs.PlaceFacts.{leader, leads_at, met_at, met_served, permits_at, permits_inside, permitted_at, permitted_found, served_at, served_found, serves_at, serves_met_at, some_fits}
+use Rattle.rules.proofs.ReasonFacts.{found_some, lowest_told, searched, two_inside, wanted}
 
 -- of the candidates that a sitting has for a branch that exists
 module _ (w : Setup) (c : Said) (Known : Type 0) (is : Known) (candidates : ℕ → Bool) (Fits : ℕ → Type 0) (sits : (place : ℕ) → Fits place → place < length c.posts) (each : (place : ℕ) → Decides (candidates place) (Known × Fits place)) where
-  -- there is one
-  pub some_fits : Decides (some_place c candidates) (Known × ((place : ℕ) × Fits place))
-  some_fits =
-      Decides-like (some_place c candidates) (λ x. (x.2.0, (x.0, x.2.1))) (λ x. (x.1.0, sits x.1.0 x.1.1, (x.0, x.1.1)))
-      (decides_any (λ place. Known × Fits place) (length c.posts) candidates (λ place h. each place))
-
-  abbrev leads : ℕ → Bool
-  leads place = candidates place && outranks w (post_at c.posts place).role w.plan.principal
-
-  leads_at : (place : ℕ) → place < length c.posts → Decides (leads place) (LeadsAt w c Fits place)
-  leads_at place h =
-      Decides-like (leads place) (λ x. (x.0.1, x.1)) (λ x. ((is, x.0), x.1))
-      (Decides-and (candidates place) (outranks w (post_at c.posts place).role w.plan.principal) (each place) (decides_self _))
-
-  -- and one that leads
-  pub leader : Decides (is_some (principal_place w c candidates)) ((place : ℕ) × LeadsAt w c Fits place)
+  -- the first that leads is the one named
+  pub leader_named : Led w c Fits → Accepts (NamesLeader w c Fits) (Ok (principal_answer w c candidates))
   unfolding principal_place
-  leader = found_some (LeadsAt w c Fits) (length c.posts) leads leads_at (λ place x. sits place x.0)
-
-  -- who is the one named
-  pub leader_named : (place : ℕ) × LeadsAt w c Fits place → Accepts (NamesLeader w c Fits) (Ok (principal_answer w c candidates))
-  unfolding principal_place
-  leader_named some =
+  leader_named led =
       record {
         accepted = principal_answer w c candidates;
-        named = record { place = unwrap_or (principal_place w c candidates) 0; names = refl; first = lowest_told (LeadsAt w c Fits) (length c.posts) leads leads_at (leader.1 some) };
+        named = record {
+          place = unwrap_or (principal_place w c candidates) 0;
+          names = refl;
+          first = lowest_told (LeadsAt w c Fits) (length c.posts) _ (leads_at w c Known is candidates Fits sits each) ((leader w c Known is candidates Fits sits each).1 led);
+        };
         is = refl;
       }
 
-  -- so the two steps have their reasons
+  -- that there is one, and one that leads, are two steps
   pub leader_steps :
       {Rest : Answer → Type 0} (t : ℕ) (rest : Answer)
-      → ((place : ℕ) × LeadsAt w c Fits place → Rest rest)
+      → (Led w c Fits → Rest rest)
       → Refuses (Lacks t (Known × ((place : ℕ) × Fits place))) NoCandidate
-      (Refuses (Lacks w.plan.principal ((place : ℕ) × LeadsAt w c Fits place)) NotGoverned Rest)
+      (Refuses (Lacks w.plan.principal (Led w c Fits)) NotGoverned Rest)
       (before (in_order (principal_steps w c candidates t)) rest)
   leader_steps {Rest = Rest} t rest go =
       let first = must (some_place c candidates) (NoCandidate t) in
@@ -73,11 +57,11 @@ module _ (w : Setup) (c : Said) (Known : Type 0) (is : Known) (candidates : ℕ 
       subst
       (λ a.
       Refuses (Lacks t (Known × ((place : ℕ) × Fits place))) NoCandidate
-      (Refuses (Lacks w.plan.principal ((place : ℕ) × LeadsAt w c Fits place)) NotGoverned Rest)
+      (Refuses (Lacks w.plan.principal (Led w c Fits)) NotGoverned Rest)
       a)
-      (sym (row_inside first (then second (Ok tt)) rest ∙ ap (λ a. before first a) (row_inside second (Ok tt) rest)))
-      (wanted (some_place c candidates) t NoCandidate _ some_fits
-      (λ some. wanted (is_some (principal_place w c candidates)) w.plan.principal NotGoverned _ leader go))
+      (sym (two_inside first second rest))
+      (wanted (some_place c candidates) t NoCandidate _ (some_fits w c Known is candidates Fits sits each)
+      (λ some. wanted (is_some (principal_place w c candidates)) w.plan.principal NotGoverned _ (leader w c Known is candidates Fits sits each) go))
 
 module _ (w : Setup) (law : Orderly w) (s : State) (c : Said) (t : ℕ) where
   -- the mark that bars is the lowest
@@ -91,46 +75,20 @@ module _ (w : Setup) (law : Orderly w) (s : State) (c : Said) (t : ℕ) where
       (λ o b. (law.branches.inside o t b.0).0) (λ none. go)
 
   module _ (is : is_branch w t ≡ true) where
-    candidate_at : (place : ℕ) → Decides (candidate w s c t place) (Candidate w s c t place)
-    candidate_at place = Decides-like (candidate w s c t place) (λ x. x.1) (λ x. (is, x)) (candidate_counts w law s c t place)
+    -- it is known that the branch exists
+    there : {X : Type 0} (r : Bool) → Decides r ((is_branch w t ≡ true) × X) → Decides r X
+    there r d = Decides-like r (λ x. x.1) (λ x. (is, x)) d
 
     -- lines
     module _ (lines : Lines) (person role : ℕ) where
-      abbrev holding : ℕ → Bool
-      holding r = holds w s person r t
-
-      serves_at : (place number : ℕ) → number < lines.count → Decides (governs w c lines role place number) (Serves w c lines role place number)
-      serves_at place number h =
-          Decides-like (governs w c lines role place number) (λ x. record { listed = h; governed = x.0; serves = x.1 }) (λ x. (x.governed, x.serves))
-          (governs_for w law s c t lines role place number)
-
-      serves_met_at : (place number : ℕ) → number < lines.count → Decides (governs_met w c lines role holding place number) (ServesMet w s c lines person role t place number)
-      unfolding governs_met
-      serves_met_at place number h =
-          Decides-and (governs w c lines role place number) _ (serves_at place number h) (meets_held w law s person t (line_at lines number))
-
-      served_at : (place : ℕ) → place < length c.posts
-          → Decides (candidate w s c t place && any_below lines.count (governs w c lines role place)) (ServedAt w s c lines role t place)
-      served_at place h =
-          Decides-and (candidate w s c t place) _ (candidate_at place)
-          (Decides-like _ (λ x. (x.0, x.2)) (λ x. (x.0, x.1.listed, x.1))
-          (decides_any (Serves w c lines role place) lines.count (governs w c lines role place) (serves_at place)))
-
-      met_at : (place : ℕ) → place < length c.posts
-          → Decides (candidate w s c t place && any_below lines.count (governs_met w c lines role holding place)) (MetAt w s c lines person role t place)
-      met_at place h =
-          Decides-and (candidate w s c t place) _ (candidate_at place)
-          (Decides-like _ (λ x. (x.0, x.2)) (λ x. (x.0, x.1.0.listed, x.1))
-          (decides_any (ServesMet w s c lines person role t place) lines.count (governs_met w c lines role holding place) (serves_met_at place)))
-
-      -- there is a candidate that a line serves, and one that is met
+      -- a candidate is served, and by a line that is met
       pub served_some : Decides (is_some (served_place w c (view w s c t) lines role)) ((place : ℕ) × ServedAt w s c lines role t place)
-      unfolding served_place view
-      served_some = found_some (ServedAt w s c lines role t) (length c.posts) _ served_at (λ place x. x.0.sits)
+      served_some =
+          Decides-like (is_some (served_place w c (view w s c t) lines role)) (λ x. (x.0, x.1.1)) (λ x. (x.0, (is, x.1)))
+          (served_found w law s c t lines person role)
 
-      pub met_some : Decides (is_some (met_place w c (view w s c t) lines person role)) ((place : ℕ) × MetAt w s c lines person role t place)
-      unfolding met_place view
-      met_some = found_some (MetAt w s c lines person role t) (length c.posts) _ met_at (λ place x. x.0.sits)
+      pub met_some : Decides (is_some (met_place w c (view w s c t) lines person role)) (Served w s c lines person role t)
+      met_some = there (is_some (met_place w c (view w s c t) lines person role)) (met_served w law s c t lines person role)
 
       -- where none is met, the line that is told
       pub unmet_told :
@@ -140,53 +98,39 @@ module _ (w : Setup) (law : Orderly w) (s : State) (c : Said) (t : ℕ) where
       unfolding serving_line served_place view
       unmet_told some fails =
           let place = unwrap_or (served_place w c (view w s c t) lines role) 0 in
-          let first : Lowest (ServedAt w s c lines role t) place = lowest_told (ServedAt w s c lines role t) (length c.posts) _ served_at (served_some.1 some) in
-          let line = first.holds.1 in
+          let first : Lowest (ServedAt w s c lines role t) place =
+          lowest_told (ServedAt w s c lines role t) (length c.posts) _ (λ p h. there _ (served_at w law s c t lines person role p h)) (served_some.1 some) in
+          let each = serves_at w law s c t lines person role place in
           record {
             place = place;
             first = first;
-            lowest = lowest_told (Serves w c lines role place) lines.count (governs w c lines role place) (serves_at place)
-                ((found_some (Serves w c lines role place) lines.count (governs w c lines role place) (serves_at place) (λ number x. x.listed)).1 line);
+            lowest = lowest_told (Serves w c lines role place) lines.count _ each ((found_some (Serves w c lines role place) lines.count _ each (λ number x. x.listed)).1 first.holds.1);
             unmet = not_from_Decides (is_some (met_place w c (view w s c t) lines person role)) met_some fails;
           }
 
       -- and where one is, the line that is named
-      pub line_named :
-          (place : ℕ) × MetAt w s c lines person role t place
-          → NamesLine w s c lines person role t (line_answer w c (view w s c t) lines person role)
+      pub line_named : Served w s c lines person role t → NamesLine w s c lines person role t (line_answer w c (view w s c t) lines person role)
       unfolding met_line met_place view
       line_named some =
           let place = unwrap_or (met_place w c (view w s c t) lines person role) 0 in
-          let first : Lowest (MetAt w s c lines person role t) place = lowest_told (MetAt w s c lines person role t) (length c.posts) _ met_at (met_some.1 some) in
+          let first : Lowest (MetAt w s c lines person role t) place =
+          lowest_told (MetAt w s c lines person role t) (length c.posts) _ (λ p h. there _ (met_at w law s c t lines person role p h)) (met_some.1 some) in
+          let each = serves_met_at w law s c t lines person role place in
           record {
             place = place;
             line = met_line w c (view w s c t) lines person role;
             names = refl;
             first = first;
-            lowest = lowest_told (ServesMet w s c lines person role t place) lines.count (governs_met w c lines role holding place) (serves_met_at place)
-                ((found_some (ServesMet w s c lines person role t place) lines.count (governs_met w c lines role holding place) (serves_met_at place) (λ number x. x.0.listed)).1 first.holds.1);
+            lowest = lowest_told (ServesMet w s c lines person role t place) lines.count _ each ((found_some (ServesMet w s c lines person role t place) lines.count _ each (λ number x. x.0.listed)).1 first.holds.1);
           }
 
     -- permits
     module _ (operation kind : ℕ) where
-      permits_at : (place role : ℕ) → Decides (has_permit w c (view w s c t) operation kind place role) (Permits w s c operation kind place role)
-      unfolding has_permit view
-      permits_at place role = decides_both (outranks w (post_at c.posts place).role role) (s.permitted operation kind role)
-
-      permits_inside : (place role : ℕ) → Permits w s c operation kind place role → role < w.roles.members
-      permits_inside place role x = (law.roles.inside (post_at c.posts place).role role x.0).1
-
-      permitted_at : (place : ℕ) → place < length c.posts
-          → Decides (candidate w s c t place && any_below w.roles.members (has_permit w c (view w s c t) operation kind place)) (PermittedAt w s c operation kind t place)
-      permitted_at place h =
-          Decides-and (candidate w s c t place) _ (candidate_at place)
-          (Decides-like _ (λ x. (x.0, x.2)) (λ x. (x.0, permits_inside place x.0 x.1, x.1))
-          (decides_any (Permits w s c operation kind place) w.roles.members (has_permit w c (view w s c t) operation kind place) (λ role i. permits_at place role)))
-
-      -- there is a candidate with a role that has the permit
+      -- a candidate has a role with the permit
       pub permitted_some : Decides (is_some (permitted_place w c (view w s c t) operation kind)) ((place : ℕ) × PermittedAt w s c operation kind t place)
-      unfolding permitted_place view
-      permitted_some = found_some (PermittedAt w s c operation kind t) (length c.posts) _ permitted_at (λ place x. x.0.sits)
+      permitted_some =
+          Decides-like (is_some (permitted_place w c (view w s c t) operation kind)) (λ x. (x.0, x.1.1)) (λ x. (x.0, (is, x.1)))
+          (permitted_found w law s c t operation kind)
 
       -- and the one that is named
       pub role_named :
@@ -195,18 +139,21 @@ module _ (w : Setup) (law : Orderly w) (s : State) (c : Said) (t : ℕ) where
       unfolding permitted_role permitted_place view
       role_named some =
           let place = unwrap_or (permitted_place w c (view w s c t) operation kind) 0 in
-          let first : Lowest (PermittedAt w s c operation kind t) place = lowest_told (PermittedAt w s c operation kind t) (length c.posts) _ permitted_at (permitted_some.1 some) in
+          let first : Lowest (PermittedAt w s c operation kind t) place =
+          lowest_told (PermittedAt w s c operation kind t) (length c.posts) _ (λ p h. there _ (permitted_at w law s c t operation kind p h)) (permitted_some.1 some) in
+          let each : (role : ℕ) → role < w.roles.members → Decides (has_permit w c (view w s c t) operation kind place role) (Permits w s c operation kind place role) =
+          λ role i. permits_at w law s c t operation kind place role in
           record {
             place = place;
             role = permitted_role w c (view w s c t) operation kind;
             names = refl;
             first = first;
-            lowest = lowest_told (Permits w s c operation kind place) w.roles.members (has_permit w c (view w s c t) operation kind place) (λ role i. permits_at place role)
-                ((found_some (Permits w s c operation kind place) w.roles.members (has_permit w c (view w s c t) operation kind place) (λ role i. permits_at place role) (permits_inside place)).1 first.holds.1);
+            lowest = lowest_told (Permits w s c operation kind place) w.roles.members _ each ((found_some (Permits w s c operation kind place) w.roles.members _ each (permits_inside w law s c t operation kind place)).1 first.holds.1);
           }
 
     -- sets and limits
-    too_many_at : (person role number : ℕ) → number < w.plan.set_count
+    too_many_at :
+        (person role number : ℕ) → number < w.plan.set_count
         → Decides (leb (get_or w.plan.sets number no_set).bound (roles_of_set w (view w s c t) person role number)) (TooMany w s person role t number)
     unfolding roles_of_set view
     too_many_at person role number h =
@@ -230,7 +177,7 @@ module _ (w : Setup) (law : Orderly w) (s : State) (c : Said) (t : ℕ) where
         Refuses (Lowest (TooMany w s person role t)) TooManyOf
         (Refuses (Lacks role (others_at s.posted person role t < limit)) LimitReached Rest)
         a)
-        (sym (row_inside first (then second (Ok tt)) rest ∙ ap (λ a. before first a) (row_inside second (Ok tt) rest)))
+        (sym (two_inside first second rest))
         (searched (TooMany w s person role t) w.plan.set_count _ TooManyOf _ (too_many_at person role) (λ number x. x.0)
         (λ none. wanted (ltb (others_at s.posted person role t) limit) role LimitReached rest (Decides-ltb (others_at s.posted person role t) limit) (λ few. go)))
 

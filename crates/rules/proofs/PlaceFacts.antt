@@ -1,129 +1,133 @@
--- What the searches through a sitting decide: a place is served, met, permitted or led exactly where there is such a candidate.
+-- What the searches through a sitting decide: of each of its places whether it is served, met, permitted or leads, and so of all.
 use Rattle.std.proofs.Common.{◌≡◌, ℕ, ◌<◌, Bool, true, ◌&&◌, length, is_some, Decides}
-use Rattle.std.proofs.lemmas.Bool.{and_from}
 use Rattle.std.proofs.lemmas.Bool.Decides.{Decides-and, Decides-eqb, Decides-like}
 use Rattle.search.specs.Searches.{any_below}
-use Rattle.search.proofs.Searches.{any_at}
 use Rattle.messages.specs.Said.{Said}
 use Rattle.rules.specs.Choices.{Lines, governs, governs_met, has_permit, line_at, met_place, permitted_place, principal_place, served_place, some_place}
-use Rattle.rules.specs.Conditions.{Candidate, Led, Meets, Served}
+use Rattle.rules.specs.Conditions.{Candidate, Led, Served}
 use Rattle.rules.specs.Promises.{Orderly}
+use Rattle.rules.specs.Reasons.{LeadsAt, MetAt, Permits, PermittedAt, ServedAt, Serves, ServesMet}
 use Rattle.rules.specs.Setup.{Setup, State, is_branch, outranks}
 use Rattle.rules.specs.Views.{candidate, view}
-use Rattle.rules.specs.Words.{holds, is_for, meets, post_at, serves}
-use Rattle.rules.proofs.RowFacts.{decides_any, decides_first, decides_self, first_at}
+use Rattle.rules.specs.Words.{holds, is_for, post_at, serves}
+use Rattle.rules.proofs.RowFacts.{decides_any, decides_self}
 use Rattle.rules.proofs.WordFacts.{candidate_counts, decides_both, meets_held}
+use Rattle.rules.proofs.ReasonFacts.{found_some}
 
--- among the candidates of a sitting one leads
-pub principal_led :
-    (w : Setup) (c : Said) (known : Type 0) (candidates : ℕ → Bool) (Fits : ℕ → Type 0)
-    → ((place : ℕ) → Fits place → place < length c.posts)
-    → known
-    → ((place : ℕ) → Decides (candidates place) (known × Fits place))
-    → Decides (is_some (principal_place w c candidates)) (Led w c Fits)
-unfolding principal_place
-principal_led w c known candidates Fits sits is each =
-    let leads : ℕ → Bool = λ place. outranks w (post_at c.posts place).role w.plan.principal in
-    Decides-like (is_some (principal_place w c candidates))
-    (λ x. record { place = x.0; candidate = x.2.0.1; leads = x.2.1 })
-    (λ x. (x.place, sits x.place x.candidate, ((is, x.candidate), x.leads)))
-    (decides_first (λ place. (known × Fits place) × (leads place ≡ true)) (length c.posts) (λ place. candidates place && leads place)
-    (λ place h. Decides-and (candidates place) (leads place) (each place) (decides_self (leads place))))
+-- the candidates that a sitting has for a branch that exists
+module _ (w : Setup) (c : Said) (Known : Type 0) (is : Known) (candidates : ℕ → Bool) (Fits : ℕ → Type 0) (sits : (place : ℕ) → Fits place → place < length c.posts) (each : (place : ℕ) → Decides (candidates place) (Known × Fits place)) where
+  -- there is one
+  pub some_fits : Decides (some_place c candidates) (Known × ((place : ℕ) × Fits place))
+  some_fits =
+      Decides-like (some_place c candidates) (λ x. (x.2.0, (x.0, x.2.1))) (λ x. (x.1.0, sits x.1.0 x.1.1, (x.0, x.1.1)))
+      (decides_any (λ place. Known × Fits place) (length c.posts) candidates (λ place h. each place))
 
--- some place of the sitting fits
-pub some_led :
-    (w : Setup) (c : Said) (known : Type 0) (candidates : ℕ → Bool) (Fits : ℕ → Type 0)
-    → ((place : ℕ) → Fits place → place < length c.posts)
-    → known
-    → ((place : ℕ) → Decides (candidates place) (known × Fits place))
-    → Led w c Fits
-    → some_place c candidates ≡ true
-some_led w c known candidates Fits sits is each x =
-    any_at candidates (length c.posts) x.place (sits x.place x.candidate) ((each x.place).1 (is, x.candidate))
+  abbrev pub leads : ℕ → Bool
+  leads place = candidates place && outranks w (post_at c.posts place).role w.plan.principal
+
+  -- one leads
+  pub leads_at : (place : ℕ) → place < length c.posts → Decides (leads place) (LeadsAt w c Fits place)
+  leads_at place h =
+      Decides-like (leads place) (λ x. (x.0.1, x.1)) (λ x. ((is, x.0), x.1))
+      (Decides-and (candidates place) (outranks w (post_at c.posts place).role w.plan.principal) (each place) (decides_self _))
+
+  pub leader : Decides (is_some (principal_place w c candidates)) (Led w c Fits)
+  unfolding principal_place
+  leader =
+      Decides-like (is_some (principal_place w c candidates)) (λ x. record { place = x.0; candidate = x.1.0; leads = x.1.1 }) (λ x. (x.place, (x.candidate, x.leads)))
+      (found_some (LeadsAt w c Fits) (length c.posts) leads leads_at (λ place x. sits place x.0))
 
 module _ (w : Setup) (law : Orderly w) (s : State) (c : Said) (t : ℕ) where
-  pub some_candidate : is_branch w t ≡ true → (place : ℕ) → Candidate w s c t place → some_place c (candidate w s c t) ≡ true
-  some_candidate known place x = any_at (candidate w s c t) (length c.posts) place x.sits ((candidate_counts w law s c t place).1 (known, x))
+  -- a place is a candidate's, and something else holds of it
+  candidate_and : {X : Type 0} (place : ℕ) (x : Bool) → Decides x X → Decides (candidate w s c t place && x) ((is_branch w t ≡ true) × (Candidate w s c t place × X))
+  candidate_and place x d =
+      Decides-like (candidate w s c t place && x) (λ e. (e.0.0, (e.0.1, e.1))) (λ e. ((e.0, e.1.0), e.1.1))
+      (Decides-and (candidate w s c t place) x (candidate_counts w law s c t place) d)
 
-  pub governs_for :
-      (lines : Lines) (role place number : ℕ)
-      → Decides (governs w c lines role place number)
-      (((line_at lines number).governed ≡ role) × (outranks w (post_at c.posts place).role (line_at lines number).governing ≡ true))
-  unfolding governs
-  governs_for lines role place number =
-      let line = line_at lines number in
-      let post = post_at c.posts place in
-      Decides-and (is_for line role) (serves w line post) (Decides-eqb line.governed role) (decides_self (serves w line post))
+  -- lines
+  module _ (lines : Lines) (person role : ℕ) where
+    abbrev pub holding : ℕ → Bool
+    holding r = holds w s person r t
 
-  -- a candidate is served by a line that is met
-  pub met_served :
-      (lines : Lines) (person role : ℕ)
-      → Decides (is_some (met_place w c (view w s c t) lines person role)) ((is_branch w t ≡ true) × Served w s c lines person role t)
-  unfolding met_place governs_met view
-  met_served lines person role =
-      let holding : ℕ → Bool = λ r. holds w s person r t in
-      let Governs : ℕ → ℕ → Type 0 = λ place number.
-      ((line_at lines number).governed ≡ role) × (outranks w (post_at c.posts place).role (line_at lines number).governing ≡ true) in
-      let Lined : ℕ → Type 0 = λ place. (number : ℕ) × (number < lines.count) × (Governs place number × Meets w s person (line_at lines number) t) in
-      let lined : ℕ → Bool = λ place. any_below lines.count (governs_met w c lines role holding place) in
-      Decides-like (is_some (met_place w c (view w s c t) lines person role))
-      (λ x.
-      let line = x.2.1 in (
-        x.2.0.0,
-        record {
-          place = x.0;
-          number = line.0;
-          candidate = x.2.0.1;
-          listed = line.1;
-          governed = line.2.0.0;
-          serves = line.2.0.1;
-          met = line.2.1;
-        },
-      ))
-      (λ x.
-      let y = x.1 in
-      (y.place, y.candidate.sits, ((x.0, y.candidate), (y.number, y.listed, ((y.governed, y.serves), y.met)))))
-      (decides_first (λ place. ((is_branch w t ≡ true) × Candidate w s c t place) × Lined place) (length c.posts)
-      (λ place. candidate w s c t place && lined place)
-      (λ place h.
-      Decides-and (candidate w s c t place) (lined place) (candidate_counts w law s c t place)
-      (decides_any (λ number. Governs place number × Meets w s person (line_at lines number) t) lines.count
-      (governs_met w c lines role holding place)
-      (λ number i.
-      Decides-and (governs w c lines role place number) (meets holding (line_at lines number)) (governs_for lines role place number)
-      (meets_held w law s person t (line_at lines number))))))
+    pub serves_at : (place number : ℕ) → number < lines.count → Decides (governs w c lines role place number) (Serves w c lines role place number)
+    unfolding governs
+    serves_at place number h =
+        let line = line_at lines number in
+        let post = post_at c.posts place in
+        Decides-like (governs w c lines role place number) (λ x. record { listed = h; governed = x.0; serves = x.1 }) (λ x. (x.governed, x.serves))
+        (Decides-and (is_for line role) (serves w line post) (Decides-eqb line.governed role) (decides_self (serves w line post)))
 
-  -- then some candidate is served
-  pub served_place_lem :
-      (lines : Lines) (person role : ℕ)
-      → is_branch w t ≡ true
-      → Served w s c lines person role t
-      → is_some (served_place w c (view w s c t) lines role) ≡ true
-  unfolding served_place view
-  served_place_lem lines person role known x =
-      let lined : ℕ → Bool = λ place. any_below lines.count (governs w c lines role place) in
-      first_at (λ place. candidate w s c t place && lined place) (length c.posts) x.place x.candidate.sits
-      (and_from (candidate w s c t x.place) (lined x.place) ((candidate_counts w law s c t x.place).1 (known, x.candidate))
-      (any_at (governs w c lines role x.place) lines.count x.number x.listed
-      ((governs_for lines role x.place x.number).1 (x.governed, x.serves))))
+    pub serves_met_at : (place number : ℕ) → number < lines.count → Decides (governs_met w c lines role holding place number) (ServesMet w s c lines person role t place number)
+    unfolding governs_met
+    serves_met_at place number h =
+        Decides-and (governs w c lines role place number) _ (serves_at place number h) (meets_held w law s person t (line_at lines number))
 
-  -- a candidate has, at or below its role, one with the permit
-  pub permitted_below :
-      (operation kind : ℕ)
-      → Decides (is_some (permitted_place w c (view w s c t) operation kind))
-      ((place : ℕ) × (place < length c.posts) × (((is_branch w t ≡ true) × Candidate w s c t place)
-      × ((role : ℕ) × (role < w.roles.members)
-      × ((outranks w (post_at c.posts place).role role ≡ true) × (s.permitted operation kind role ≡ true)))))
-  unfolding permitted_place has_permit view
-  permitted_below operation kind =
-      let below : ℕ → ℕ → Bool = λ place role. outranks w (post_at c.posts place).role role in
-      let Permit : ℕ → ℕ → Type 0 = λ place role. (below place role ≡ true) × (s.permitted operation kind role ≡ true) in
-      let permit : ℕ → Bool = λ place. any_below w.roles.members (has_permit w c (view w s c t) operation kind place) in
-      decides_first
-      (λ place. ((is_branch w t ≡ true) × Candidate w s c t place) × ((role : ℕ) × (role < w.roles.members) × Permit place role))
-      (length c.posts)
-      (λ place. candidate w s c t place && permit place)
-      (λ place h.
-      Decides-and (candidate w s c t place) (permit place) (candidate_counts w law s c t place)
-      (decides_any (Permit place) w.roles.members (has_permit w c (view w s c t) operation kind place)
-      (λ role i. decides_both (below place role) (s.permitted operation kind role))))
+    pub served_at :
+        (place : ℕ) → place < length c.posts
+        → Decides (candidate w s c t place && any_below lines.count (governs w c lines role place)) ((is_branch w t ≡ true) × ServedAt w s c lines role t place)
+    served_at place h =
+        candidate_and place _
+        (Decides-like _ (λ x. (x.0, x.2)) (λ x. (x.0, x.1.listed, x.1))
+        (decides_any (Serves w c lines role place) lines.count (governs w c lines role place) (serves_at place)))
+
+    pub met_at :
+        (place : ℕ) → place < length c.posts
+        → Decides (candidate w s c t place && any_below lines.count (governs_met w c lines role holding place)) ((is_branch w t ≡ true) × MetAt w s c lines person role t place)
+    met_at place h =
+        candidate_and place _
+        (Decides-like _ (λ x. (x.0, x.2)) (λ x. (x.0, x.1.0.listed, x.1))
+        (decides_any (ServesMet w s c lines person role t place) lines.count (governs_met w c lines role holding place) (serves_met_at place)))
+
+    -- a candidate is served by a line
+    pub served_found : Decides (is_some (served_place w c (view w s c t) lines role)) ((place : ℕ) × ((is_branch w t ≡ true) × ServedAt w s c lines role t place))
+    unfolding served_place view
+    served_found = found_some (λ place. (is_branch w t ≡ true) × ServedAt w s c lines role t place) (length c.posts) _ served_at (λ place x. x.1.0.sits)
+
+    -- and by one that is met
+    pub met_served : Decides (is_some (met_place w c (view w s c t) lines person role)) ((is_branch w t ≡ true) × Served w s c lines person role t)
+    unfolding met_place view
+    met_served =
+        Decides-like (is_some (met_place w c (view w s c t) lines person role))
+        (λ x.
+        let line = x.1.1.1 in (
+          x.1.0,
+          record {
+            place = x.0;
+            number = line.0;
+            candidate = x.1.1.0;
+            listed = line.1.0.listed;
+            governed = line.1.0.governed;
+            serves = line.1.0.serves;
+            met = line.1.1;
+          },
+        ))
+        (λ x.
+        let y = x.1 in
+        (y.place, (x.0, (y.candidate, (y.number, (record { listed = y.listed; governed = y.governed; serves = y.serves }, y.met))))))
+        (found_some (λ place. (is_branch w t ≡ true) × MetAt w s c lines person role t place) (length c.posts) _ met_at (λ place x. x.1.0.sits))
+
+    -- who is served by one that is met is served
+    pub met_is_served : Served w s c lines person role t → (place : ℕ) × ServedAt w s c lines role t place
+    met_is_served x = (x.place, (x.candidate, (x.number, record { listed = x.listed; governed = x.governed; serves = x.serves })))
+
+  -- permits
+  module _ (operation kind : ℕ) where
+    pub permits_at : (place role : ℕ) → Decides (has_permit w c (view w s c t) operation kind place role) (Permits w s c operation kind place role)
+    unfolding has_permit view
+    permits_at place role = decides_both (outranks w (post_at c.posts place).role role) (s.permitted operation kind role)
+
+    pub permits_inside : (place role : ℕ) → Permits w s c operation kind place role → role < w.roles.members
+    permits_inside place role x = (law.roles.inside (post_at c.posts place).role role x.0).1
+
+    pub permitted_at :
+        (place : ℕ) → place < length c.posts
+        → Decides (candidate w s c t place && any_below w.roles.members (has_permit w c (view w s c t) operation kind place)) ((is_branch w t ≡ true) × PermittedAt w s c operation kind t place)
+    permitted_at place h =
+        candidate_and place _
+        (Decides-like _ (λ x. (x.0, x.2)) (λ x. (x.0, permits_inside place x.0 x.1, x.1))
+        (decides_any (Permits w s c operation kind place) w.roles.members (has_permit w c (view w s c t) operation kind place) (λ role i. permits_at place role)))
+
+    -- a candidate has, at or below its role, one with the permit
+    pub permitted_found : Decides (is_some (permitted_place w c (view w s c t) operation kind)) ((place : ℕ) × ((is_branch w t ≡ true) × PermittedAt w s c operation kind t place))
+    unfolding permitted_place view
+    permitted_found = found_some (λ place. (is_branch w t ≡ true) × PermittedAt w s c operation kind t place) (length c.posts) _ permitted_at (λ place x. x.1.0.sits)

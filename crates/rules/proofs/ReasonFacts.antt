@@ -1,9 +1,9 @@
 -- One check after the other against its reason: where the check refuses the reason holds, and where it passes it holds of nothing.
-use Rattle.std.proofs.Common.{◌≡◌, ℕ, ◌<◌, Bool, true, false, is_some, Some, None, Ok, Err, Decides, Option, refl, arith}
+use Rattle.std.proofs.Common.{◌≡◌, ℕ, ◌<◌, Bool, true, false, is_some, Some, None, Ok, Err, Decides, Option, [], ◌∷◌, refl, ap, ◌∙◌, arith}
 use Rattle.std.specs.Option.{unwrap_or}
 use Rattle.std.proofs.lemmas.Bool.{both_ways, false≢true}
 use Rattle.std.proofs.lemmas.Bool.Decides.{Decides-like}
-use Rattle.refusals.specs.Checks.{must, then}
+use Rattle.refusals.specs.Checks.{in_order, must, then}
 use Rattle.search.specs.Searches.{first_below}
 use Rattle.search.proofs.Searches.{first_found, first_missed}
 use Rattle.rules.specs.Answers.{Answer}
@@ -13,9 +13,12 @@ use Rattle.rules.specs.declared.fault.EngineFault.{EngineFault}
 use Rattle.rules.proofs.RowFacts.{decides_first}
 
 -- a row in a row is its checks, one after the other
-pub row_inside : (a b : Check) (rest : Answer) → before (then a b) rest ≡ before a (before b rest)
+row_inside : (a b : Check) (rest : Answer) → before (then a b) rest ≡ before a (before b rest)
 row_inside (Ok done) b rest = refl
 row_inside (Err fault) b rest = refl
+
+pub two_inside : (a b : Check) (rest : Answer) → before (in_order (a ∷ b ∷ [])) rest ≡ before a (before b rest)
+two_inside a b rest = row_inside a (then b (Ok tt)) rest ∙ ap (λ r. before a r) (row_inside b (Ok tt) rest)
 
 -- a test
 pub tested :

@@ -1,5 +1,5 @@
 -- Every answer has its reason: the first of the call's own that holds, after the numbers that it names.
-use Rattle.std.proofs.Common.{◌≡◌, ℕ, ◌<◌, Bool, true, false, not, ltb, List, [], ◌∷◌, length, is_some, Ok, Err, Decides, refl, ap, ◌∙◌, subst, sym, inl, inr}
+use Rattle.std.proofs.Common.{◌≡◌, ℕ, ◌<◌, Bool, true, false, not, ltb, List, [], ◌∷◌, length, is_some, Ok, Err, refl, ap, ◌∙◌, subst, sym, inl, inr}
 use Rattle.std.specs.Option.{unwrap_or}
 use Rattle.std.proofs.lemmas.Bool.{both_ways, cases_Bool, cond-true}
 use Rattle.std.proofs.lemmas.Bool.Decides.{Decides-at, Decides-like, Decides-not}
@@ -11,9 +11,9 @@ use Rattle.messages.specs.declared.post.Post.{Post}
 use Rattle.rules.specs.Answers.{Answer}
 use Rattle.rules.specs.Calls.{close_row, decide_row, enrol_row, forbid_row, grant_row, judged, line_answer, open_row, permit_row, principal_answer, principal_steps, sit_row, strike_row, take_row, throughout_row}
 use Rattle.rules.specs.Choices.{finds, grant_lines, met_place, permitted_place, permitted_role, postings_of, served_place, serving_line, some_place, take_lines}
-use Rattle.rules.specs.Conditions.{Candidate, Commander, Counts, Known, KnownPosting}
+use Rattle.rules.specs.Conditions.{Candidate, Commander, Counts, Known, KnownPosting, Led}
 use Rattle.rules.specs.Promises.{AnsweredForItsReason, Orderly}
-use Rattle.rules.specs.Reasons.{Accepts, Bars, ByCommander, ByLeader, Lacks, LeadsAt, Lowest, NamesLeader, NamesRole, PermittedAt, Reasoned, Refuses, SomeCandidate, refused}
+use Rattle.rules.specs.Reasons.{Accepts, Bars, ByCommander, ByLeader, Lacks, Lowest, NamesLeader, NamesRole, PermittedAt, Reasoned, Refuses, SomeCandidate, refused}
 use Rattle.rules.specs.Rows.{Check, before}
 use Rattle.rules.specs.Runs.{answer}
 use Rattle.rules.specs.Setup.{Setup, State, home_of, is_branch, may_stand_at, piece_of}
@@ -25,34 +25,31 @@ use Rattle.rules.specs.declared.fault.EngineFault.TheVariants.{NoCandidate, NotG
 use Rattle.rules.proofs.RowFacts.{decides_false, decides_never, decides_self}
 use Rattle.rules.proofs.WordFacts.{belongs_enrolment, candidate_counts, commander_leads}
 use Rattle.rules.proofs.SightFacts.{over_one, over_self, sight_view}
-use Rattle.rules.proofs.CallFacts.{register_numbers}
+use Rattle.rules.proofs.CallFacts.{candidate_fits, register_numbers}
 use Rattle.rules.proofs.Acceptance.{counting_seen, found_held, no_candidate}
 use Rattle.rules.proofs.ReasonFacts.{searched, tested, wanted}
-use Rattle.rules.proofs.CallReasons.{barred, leader_named, leader_steps, limited, line_named, met_some, permitted_some, put_reasons, role_named, served_some, some_fits, take_reasons, unmet_told}
+use Rattle.rules.proofs.CallReasons.{barred, leader_named, leader_steps, limited, line_named, met_some, permitted_some, put_reasons, role_named, served_some, take_reasons, unmet_told}
 use Rattle.rules.proofs.MissingFacts.{call_missing}
 
 -- the row of a call about one branch, at the view of that branch
 module _ (w : Setup) (law : Orderly w) (s : State) (c : Said) (t : ℕ) (is : is_branch w t ≡ true) where
-  some_candidate : Decides (some_place c (candidate w s c t)) (SomeCandidate w s c t)
-  some_candidate = some_fits w c (is_branch w t ≡ true) is (candidate w s c t) (Candidate w s c t) (λ place x. x.sits) (candidate_counts w law s c t)
-
   -- a candidate leads, or is lacking
   by_leader :
       {Rest : Answer → Type 0} (rest : Answer)
-      → ((place : ℕ) × LeadsAt w c (Candidate w s c t) place → Rest rest)
+      → (Led w c (Candidate w s c t) → Rest rest)
       → ByLeader w s c t Rest (before (in_order (principal_steps w c (candidate w s c t) t)) rest)
   by_leader = leader_steps w c (is_branch w t ≡ true) is (candidate w s c t) (Candidate w s c t) (λ place x. x.sits) (candidate_counts w law s c t) t
 
-  candidate_named : (place : ℕ) × LeadsAt w c (Candidate w s c t) place → Accepts (NamesLeader w c (Candidate w s c t)) (Ok (principal_answer w c (candidate w s c t)))
+  candidate_named : Led w c (Candidate w s c t) → Accepts (NamesLeader w c (Candidate w s c t)) (Ok (principal_answer w c (candidate w s c t)))
   candidate_named = leader_named w c (is_branch w t ≡ true) is (candidate w s c t) (Candidate w s c t) (λ place x. x.sits) (candidate_counts w law s c t)
 
   by_commander :
       {Rest : Answer → Type 0} (rest : Answer)
-      → ((place : ℕ) × LeadsAt w c (Commander w s c t) place → Rest rest)
+      → (Led w c (Commander w s c t) → Rest rest)
       → ByCommander w s c t Rest (before (in_order (principal_steps w c (commander w s c t) t)) rest)
   by_commander = leader_steps w c (is_branch w t ≡ true) is (commander w s c t) (Commander w s c t) (λ place x. x.candidate.sits) (commander_leads w law s c t) t
 
-  commander_named : (place : ℕ) × LeadsAt w c (Commander w s c t) place → Accepts (NamesLeader w c (Commander w s c t)) (Ok (principal_answer w c (commander w s c t)))
+  commander_named : Led w c (Commander w s c t) → Accepts (NamesLeader w c (Commander w s c t)) (Ok (principal_answer w c (commander w s c t)))
   commander_named = leader_named w c (is_branch w t ≡ true) is (commander w s c t) (Commander w s c t) (λ place x. x.candidate.sits) (commander_leads w law s c t)
 
   decide_reasons : (operation piece : ℕ) → home_of w piece ≡ t → Reasoned w s c (Decide operation piece) (decide_row w c (view w s c t) operation piece)
@@ -66,7 +63,7 @@ module _ (w : Setup) (law : Orderly w) (s : State) (c : Said) (t : ℕ) (is : is
       (Accepts (NamesRole w s c operation kind h))))
       (decide_row w c (view w s c t) operation piece))
       (sym home)
-      (wanted (some_place c (candidate w s c t)) piece NoCandidate _ some_candidate
+      (wanted (some_place c (candidate w s c t)) piece NoCandidate _ (candidate_fits w law s c t is)
       (λ some. barred w law s c t _
       (wanted (is_some (permitted_place w c (view w s c t) operation kind)) kind NoPermit _ (permitted_some w law s c t is operation kind)
       (λ permitted. record { accepted = Allowed (unwrap_or (permitted_place w c (view w s c t) operation kind) 0) (permitted_role w c (view w s c t) operation kind); named = role_named w law s c t is operation kind permitted; is = refl }))))
@@ -77,7 +74,7 @@ module _ (w : Setup) (law : Orderly w) (s : State) (c : Said) (t : ℕ) (is : is
       let v = view w s c t in
       let lines = grant_lines w in
       wanted (may_stand_at w role t) role CannotStand _ (decides_self (may_stand_at w role t))
-      (λ stands. wanted (some_place c (candidate w s c t)) t NoCandidate _ some_candidate
+      (λ stands. wanted (some_place c (candidate w s c t)) t NoCandidate _ (candidate_fits w law s c t is)
       (λ some. wanted (is_some (served_place w c v lines role)) role NotGoverned _ (served_some w law s c t is lines person role)
       (λ served. barred w law s c t _
       (wanted (belongs w s person t) person Stranger _ (belongs_enrolment w law s person t)
@@ -93,7 +90,7 @@ module _ (w : Setup) (law : Orderly w) (s : State) (c : Said) (t : ℕ) (is : is
   take_row_reasons person role known =
       let v = view w s c t in
       let lines = take_lines w in
-      wanted (some_place c (candidate w s c t)) t NoCandidate _ some_candidate
+      wanted (some_place c (candidate w s c t)) t NoCandidate _ (candidate_fits w law s c t is)
       (λ some. wanted (is_some (served_place w c v lines role)) role NotGoverned _ (served_some w law s c t is lines person role)
       (λ served. tested (is_some (met_place w c v lines person role)) (serving_line w c v lines role) Unmet _
       (unmet_told w law s c t is lines person role served)
@@ -216,7 +213,7 @@ module _ (w : Setup) (law : Orderly w) (s : State) where
       let e : sight w s c branch ≡ view w s c branch = sight_view w s c branch k (over_one w branch branch (over_self w law branch is)) in
       wanted (some_place c (sight w s c branch).candidate) branch NoCandidate _
       (Decides-at (some_place c (sight w s c branch).candidate) (some_place c (view w s c branch).candidate) (ap (λ v. some_place c v.candidate) e)
-      (some_candidate w law s c branch is))
+      (candidate_fits w law s c branch is))
       (λ some. wanted (ltb 0 (postings_of w (finds w (sight w s c) person role branch))) branch NothingFound _
       (found_held w law s sitter person role branch posts k)
       (λ found. record { accepted = _; named = record { taken = _; left = _; names = refl }; is = refl }))

@@ -91,6 +91,7 @@ pub record Isolated (w : Setup) (B : ℕ) (xs : List Said) (us : List Answer) (s
   pub ends_alike : remaining w B xs ≡ remaining w B ys → Alike w B s t
   -- for every C whose reach shares no branch with B's: where one list is the other with two neighbouring calls exchanged, one of a
   -- sitting within B's reach and one of a sitting within C's, every call has the same answer in both, and the ends are the same
+  -- (here the call within B's reach comes first in xs; where it comes first in ys, take the two runs the other way round)
   pub exchange : (C : ℕ) → Apart w B C → (front rest : List Said) (x y : Said) → within w B x ≡ true → within w C y ≡ true →
       xs ≡ front ++ x ∷ y ∷ rest → ys ≡ front ++ y ∷ x ∷ rest →
       (vs ≡ exchanged (length front) us) × Same s t

@@ -11,7 +11,7 @@ use Rattle.messages.specs.declared.call.Call.TheVariants.{Decide, Grant, Take, T
 use Rattle.messages.specs.declared.post.Post.{Post}
 use Rattle.rules.specs.Answers.{Answer}
 use Rattle.rules.specs.Choices.{Lines, grant_lines, line_at, take_lines}
-use Rattle.rules.specs.Conditions.{Belongs, Candidate, Commander, Counts, Holds, Meets, roles_then}
+use Rattle.rules.specs.Conditions.{Belongs, Candidate, Commander, Counts, Holds, Led, Meets, Served, roles_then}
 use Rattle.rules.specs.Setup.{Setup, State, home_of, is_branch, is_kind, is_operation, is_person, is_piece, is_role, outranks, over, piece_of, may_stand_at}
 use Rattle.rules.specs.Words.{post_at}
 use Rattle.rules.specs.declared.answer.Accepted.{Accepted}
@@ -75,7 +75,7 @@ pub record MeetsNone (w : Setup) (s : State) (c : Said) (lines : Lines) (person 
   pub place : ℕ
   pub first : Lowest (ServedAt w s c lines role t) place
   pub lowest : Lowest (Serves w c lines role place) number
-  pub unmet : (place : ℕ) × MetAt w s c lines person role t place → ⊥
+  pub unmet : Served w s c lines person role t → ⊥
 
 -- the role is at or below that of the post at a place, and has the permit
 abbrev pub Permits : Setup → State → Said → ℕ → ℕ → ℕ → ℕ → Type 0
@@ -126,14 +126,14 @@ pub record NamesCounts (accepted : Accepted) : Type 0 where
 abbrev pub ByLeader : Setup → State → Said → ℕ → (Answer → Type 0) → Answer → Type 0
 ByLeader w s c t Rest =
     Refuses (Lacks t (SomeCandidate w s c t)) NoCandidate
-    (Refuses (Lacks w.plan.principal ((place : ℕ) × LeadsAt w c (Candidate w s c t) place)) NotGoverned
+    (Refuses (Lacks w.plan.principal (Led w c (Candidate w s c t))) NotGoverned
     Rest)
 
 -- the same of those for opening and closing
 abbrev pub ByCommander : Setup → State → Said → ℕ → (Answer → Type 0) → Answer → Type 0
 ByCommander w s c t Rest =
     Refuses (Lacks t (SomeCommander w s c t)) NoCandidate
-    (Refuses (Lacks w.plan.principal ((place : ℕ) × LeadsAt w c (Commander w s c t) place)) NotGoverned
+    (Refuses (Lacks w.plan.principal (Led w c (Commander w s c t))) NotGoverned
     Rest)
 
 -- the reasons of each call in the sequence in which they are told, and what its acceptance names
