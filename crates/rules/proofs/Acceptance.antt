@@ -4,7 +4,7 @@ use Rattle.std.proofs.lemmas.Bool.{both_ways, cases_Bool, cond-true}
 use Rattle.std.proofs.lemmas.Bool.Decides.{Decides-and, Decides-at, Decides-eqb, Decides-like, Decides-not, not_from_Decides}
 use Rattle.refusals.specs.Checks.{in_order}
 use Rattle.search.specs.Searches.{count_below, first_below}
-use Rattle.search.proofs.Searches.{any_some}
+use Rattle.search.proofs.Searches.{any_fails}
 use Rattle.messages.specs.Said.{Said}
 use Rattle.messages.specs.declared.call.Call.{Call}
 use Rattle.messages.specs.declared.call.Call.TheVariants.{Decide, Grant, Take, Throughout, Enrol, Strike, Open, Close, Permit, Forbid, Sit}
@@ -27,11 +27,9 @@ use Rattle.rules.proofs.KnownFacts.{numbers_known}
 use Rattle.rules.proofs.SightFacts.{finds_in, none_seen, over_one, over_post, over_self, sight_view}
 use Rattle.rules.proofs.CallFacts.{decided_allowed, enrolled_allowed, forbidden_allowed, granted_allowed, opened_allowed, permitted_allowed, shut_allowed, struck_allowed, taken_allowed}
 
--- at a branch that does not exist no candidate is seen
-pub no_candidate : (w : Setup) (s : State) (c : Said) (t : ℕ) → is_branch w t ≡ false → some_place c (sight w s c t).candidate ≡ true → ⊥
-no_candidate w s c t lacks some =
-    let found = any_some (sight w s c t).candidate (length c.posts) some in
-    both_ways ((sight w s c t).candidate found.0) (none_seen w s c t found.0 lacks) found.2
+-- at a branch that does not exist no place is seen to be a candidate
+pub no_place : (w : Setup) (s : State) (c : Said) (t : ℕ) → is_branch w t ≡ false → some_place c (sight w s c t).candidate ≡ false
+no_place w s c t lacks = any_fails (sight w s c t).candidate (length c.posts) (λ place h. none_seen w s c t place lacks)
 
 module _ (w : Setup) (law : Orderly w) (s : State) where
   -- at the one branch that it is about a call sees the view, so that its row decides what the row at the view does
@@ -147,7 +145,7 @@ module _ (w : Setup) (law : Orderly w) (s : State) where
             seen c t (λ v. decide_row w c v operation piece) k (cond-true (is_branch w t) (t ∷ []) [] is) is (decided_allowed w law s c operation piece is)
         | inr lacks ↦
             decides_never (is_ok (decide_row w c (sight w s c t) operation piece))
-            (λ e. no_candidate w s c t lacks ((decides_must (some_place c (sight w s c t).candidate) _ (decides_self _)).0 (first_passed _ _ e)))
+            (λ e. both_ways _ (no_place w s c t lacks) ((decides_must (some_place c (sight w s c t).candidate) _ (decides_self _)).0 (first_passed _ _ e)))
             (λ x. both_ways (is_branch w t) lacks x.home)
       ]
 
@@ -167,7 +165,7 @@ module _ (w : Setup) (law : Orderly w) (s : State) where
             (λ e.
             let steps = first_passed _ rest (sym (ap (λ a. is_ok a) begins) ∙ e) in
             let first = ((decides_then _ _ (decides_must (some_place c (sight w s c 0).candidate) _ (decides_self _)) (decides_self _)).0 steps).0 in
-            no_candidate w s c 0 lacks first)
+            both_ways _ (no_place w s c 0 lacks) first)
             (λ x. both_ways (is_branch w 0) lacks x.top)
       ]
 

@@ -1,9 +1,9 @@
--- A new state has the founding posting and no other, and nothing else.
+-- A new state has the founding posting, where the register takes it, and nothing else.
 use Rattle.std.proofs.Common.{◌≡◌, ℕ, ◌<◌, Bool, true, false, ◌&&◌, ◌||◌, Decides, refl, arith}
 use Rattle.std.proofs.lemmas.Bool.Decides.{Decides-and, Decides-like, Decides-ltb}
 use Rattle.search.specs.Searches.{sum_below}
 use Rattle.registers.specs.Meaning.{added, nobody, postings_at, same_posting}
-use Rattle.rules.specs.Promises.{BeginsAsSold}
+use Rattle.rules.specs.Promises.{BeginsFounded}
 use Rattle.rules.specs.Setup.{Setup, founded, new}
 use Rattle.rules.proofs.CallFacts.{put_decided}
 use Rattle.rules.proofs.Effects.{same_posting_lem}
@@ -25,9 +25,9 @@ founding w =
     (λ x. let more = x.2 in ((refl, role.1 x.0, branch.1 x.1), (refl, (omega (arith, none, more), tt))))
     (put_decided nobody w.register_branches w.share 0 w.plan.principal 0)
 
-pub begins_as_sold : BeginsAsSold
+pub begins_founded : BeginsFounded
 unfolding new
-begins_as_sold w =
+begins_founded w =
     record {
       posted = λ x y z.
           Decides-like (founded w && added nobody 0 w.plan.principal 0 x y z) (λ e. (e.1, e.0)) (λ e. (e.1, e.0))

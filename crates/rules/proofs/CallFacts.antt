@@ -10,7 +10,7 @@ use Rattle.registers.specs.Meaning.{Postings, others_at, postings_at, put_checke
 use Rattle.messages.specs.Said.{Said}
 use Rattle.rules.specs.Calls.{close_row, decide_row, enrol_row, forbid_row, grant_row, open_row, permit_row, principal_steps, strike_row, take_row}
 use Rattle.rules.specs.Choices.{Lines, full_set, grant_lines, roles_of_set, served_place, some_place, take_lines}
-use Rattle.rules.specs.Conditions.{CanAccess, Candidate, Commander, KnownPosting, Led, MayEnrol, MayGrant, MayMark, MayPermit, MayStrike, MayTake, Served, roles_then}
+use Rattle.rules.specs.Conditions.{CanAccess, Candidate, Commander, KnownPosting, Led, MayEnrol, MayGrant, MayMark, MayPermit, MayStrike, MayTake, ServedMet, roles_then}
 use Rattle.rules.specs.Promises.{Orderly}
 use Rattle.rules.specs.Reasons.{SomeCandidate}
 use Rattle.rules.specs.Rows.{Check, before}
@@ -82,11 +82,11 @@ led_and steps test fault accepted led d =
     Decides-like (is_ok (before steps (before (must test fault) (Ok accepted)))) (λ x. (x.0, x.1.0)) (λ x. (x.0, (x.1, tt)))
     (decides_before steps _ led (λ p. decides_before _ _ (decides_must test fault d) (λ q. decides_none)))
 
--- whoever is served by a line that is met is served
+-- where a candidate is served by a line that is met, one is served
 served_is :
     (w : Setup) (law : Orderly w) (s : State) (c : Said) (t : ℕ) (lines : Lines) (person role : ℕ)
     → is_branch w t ≡ true
-    → Served w s c lines person role t
+    → ServedMet w s c lines person role t
     → is_some (served_place w c (view w s c t) lines role) ≡ true
 served_is w law s c t lines person role is x =
     let served = met_is_served w law s c t lines person role x in

@@ -14,9 +14,9 @@ use Rattle.messages.specs.Said.{Said}
 use Rattle.rules.specs.Answers.{Answer}
 use Rattle.rules.specs.Calls.{line_answer, principal_answer, principal_steps}
 use Rattle.rules.specs.Choices.{Lines, full_set, has_permit, met_line, met_place, permitted_place, permitted_role, principal_place, roles_of_set, served_place, serving_line, sets_and_limits, some_place}
-use Rattle.rules.specs.Conditions.{Led, Served, roles_then}
+use Rattle.rules.specs.Conditions.{Led, ServedMet, roles_then}
 use Rattle.rules.specs.Promises.{Orderly}
-use Rattle.rules.specs.Reasons.{Accepts, Bars, Lacks, LeadsAt, Lowest, MeetsNone, MetAt, NamesLeader, NamesLine, NamesRole, Permits, PermittedAt, Refuses, ServedAt, Serves, ServesMet, TooMany}
+use Rattle.rules.specs.Reasons.{Accepts, Bars, Lacks, LeadsAt, Lowest, MeetsNone, MetAt, NamesLeader, NamesLine, NamesRole, Permits, PermittedAt, Refuses, ServedAt, Governs, GovernsMet, TooMany}
 use Rattle.rules.specs.Rows.{before, by_register, refuse_at}
 use Rattle.rules.specs.Setup.{Setup, State, is_branch, over}
 use Rattle.rules.specs.Views.{view}
@@ -25,11 +25,11 @@ use Rattle.rules.specs.declared.answer.Accepted.TheVariants.{Allowed}
 use Rattle.rules.specs.declared.fault.EngineFault.TheVariants.{NoCandidate, NotGoverned, Closed, TooManyOf, LimitReached, Register}
 use Rattle.rules.proofs.RowFacts.{decides_false, decides_self}
 use Rattle.rules.proofs.WordFacts.{decides_both}
-use Rattle.rules.proofs.PlaceFacts.{leader, leads_at, met_at, met_served, permits_at, permits_inside, permitted_at, permitted_found, served_at, served_found, serves_at, serves_met_at, some_fits}
+use Rattle.rules.proofs.PlaceFacts.{leader, leads_at, met_at, met_served, permits_at, permits_inside, permitted_at, permitted_found, served_at, served_found, governs_at, governs_met_at, some_fits}
 use Rattle.rules.proofs.ReasonFacts.{found_some, lowest_told, searched, two_inside, wanted}
 
 -- of the candidates that a sitting has for a branch that exists
-module _ (w : Setup) (c : Said) (Known : Type 0) (is : Known) (candidates : ℕ → Bool) (Fits : ℕ → Type 0) (sits : (place : ℕ) → Fits place → place < length c.posts) (each : (place : ℕ) → Decides (candidates place) (Known × Fits place)) where
+module _ (w : Setup) (c : Said) (Exists : Type 0) (is : Exists) (candidates : ℕ → Bool) (Fits : ℕ → Type 0) (sits : (place : ℕ) → Fits place → place < length c.posts) (each : (place : ℕ) → Decides (candidates place) (Exists × Fits place)) where
   -- the first that leads is the one named
   pub leader_named : Led w c Fits → Accepts (NamesLeader w c Fits) (Ok (principal_answer w c candidates))
   unfolding principal_place
@@ -39,7 +39,7 @@ module _ (w : Setup) (c : Said) (Known : Type 0) (is : Known) (candidates : ℕ 
         named = record {
           place = unwrap_or (principal_place w c candidates) 0;
           names = refl;
-          first = lowest_told (LeadsAt w c Fits) (length c.posts) _ (leads_at w c Known is candidates Fits sits each) ((leader w c Known is candidates Fits sits each).1 led);
+          first = lowest_told (LeadsAt w c Fits) (length c.posts) _ (leads_at w c Exists is candidates Fits sits each) ((leader w c Exists is candidates Fits sits each).1 led);
         };
         is = refl;
       }
@@ -48,7 +48,7 @@ module _ (w : Setup) (c : Said) (Known : Type 0) (is : Known) (candidates : ℕ 
   pub leader_steps :
       {Rest : Answer → Type 0} (t : ℕ) (rest : Answer)
       → (Led w c Fits → Rest rest)
-      → Refuses (Lacks t (Known × ((place : ℕ) × Fits place))) NoCandidate
+      → Refuses (Lacks t (Exists × ((place : ℕ) × Fits place))) NoCandidate
       (Refuses (Lacks w.plan.principal (Led w c Fits)) NotGoverned Rest)
       (before (in_order (principal_steps w c candidates t)) rest)
   leader_steps {Rest = Rest} t rest go =
@@ -56,12 +56,12 @@ module _ (w : Setup) (c : Said) (Known : Type 0) (is : Known) (candidates : ℕ 
       let second = must (is_some (principal_place w c candidates)) (NotGoverned w.plan.principal) in
       subst
       (λ a.
-      Refuses (Lacks t (Known × ((place : ℕ) × Fits place))) NoCandidate
+      Refuses (Lacks t (Exists × ((place : ℕ) × Fits place))) NoCandidate
       (Refuses (Lacks w.plan.principal (Led w c Fits)) NotGoverned Rest)
       a)
       (sym (two_inside first second rest))
-      (wanted (some_place c candidates) t NoCandidate _ (some_fits w c Known is candidates Fits sits each)
-      (λ some. wanted (is_some (principal_place w c candidates)) w.plan.principal NotGoverned _ (leader w c Known is candidates Fits sits each) go))
+      (wanted (some_place c candidates) t NoCandidate _ (some_fits w c Exists is candidates Fits sits each)
+      (λ some. wanted (is_some (principal_place w c candidates)) w.plan.principal NotGoverned _ (leader w c Exists is candidates Fits sits each) go))
 
 module _ (w : Setup) (law : Orderly w) (s : State) (c : Said) (t : ℕ) where
   -- the mark that bars is the lowest
@@ -87,7 +87,7 @@ module _ (w : Setup) (law : Orderly w) (s : State) (c : Said) (t : ℕ) where
           Decides-like (is_some (served_place w c (view w s c t) lines role)) (λ x. (x.0, x.1.1)) (λ x. (x.0, (is, x.1)))
           (served_found w law s c t lines person role)
 
-      pub met_some : Decides (is_some (met_place w c (view w s c t) lines person role)) (Served w s c lines person role t)
+      pub met_some : Decides (is_some (met_place w c (view w s c t) lines person role)) (ServedMet w s c lines person role t)
       met_some = there (is_some (met_place w c (view w s c t) lines person role)) (met_served w law s c t lines person role)
 
       -- where none is met, the line that is told
@@ -100,28 +100,28 @@ module _ (w : Setup) (law : Orderly w) (s : State) (c : Said) (t : ℕ) where
           let place = unwrap_or (served_place w c (view w s c t) lines role) 0 in
           let first : Lowest (ServedAt w s c lines role t) place =
           lowest_told (ServedAt w s c lines role t) (length c.posts) _ (λ p h. there _ (served_at w law s c t lines person role p h)) (served_some.1 some) in
-          let each = serves_at w law s c t lines person role place in
+          let each = governs_at w law s c t lines person role place in
           record {
             place = place;
             first = first;
-            lowest = lowest_told (Serves w c lines role place) lines.count _ each ((found_some (Serves w c lines role place) lines.count _ each (λ number x. x.listed)).1 first.holds.1);
+            lowest = lowest_told (Governs w c lines role place) lines.count _ each ((found_some (Governs w c lines role place) lines.count _ each (λ number x. x.listed)).1 first.fits.1);
             unmet = not_from_Decides (is_some (met_place w c (view w s c t) lines person role)) met_some fails;
           }
 
       -- and where one is, the line that is named
-      pub line_named : Served w s c lines person role t → NamesLine w s c lines person role t (line_answer w c (view w s c t) lines person role)
+      pub line_named : ServedMet w s c lines person role t → NamesLine w s c lines person role t (line_answer w c (view w s c t) lines person role)
       unfolding met_line met_place view
       line_named some =
           let place = unwrap_or (met_place w c (view w s c t) lines person role) 0 in
           let first : Lowest (MetAt w s c lines person role t) place =
           lowest_told (MetAt w s c lines person role t) (length c.posts) _ (λ p h. there _ (met_at w law s c t lines person role p h)) (met_some.1 some) in
-          let each = serves_met_at w law s c t lines person role place in
+          let each = governs_met_at w law s c t lines person role place in
           record {
             place = place;
             line = met_line w c (view w s c t) lines person role;
             names = refl;
             first = first;
-            lowest = lowest_told (ServesMet w s c lines person role t place) lines.count _ each ((found_some (ServesMet w s c lines person role t place) lines.count _ each (λ number x. x.0.listed)).1 first.holds.1);
+            lowest = lowest_told (GovernsMet w s c lines person role t place) lines.count _ each ((found_some (GovernsMet w s c lines person role t place) lines.count _ each (λ number x. x.0.listed)).1 first.fits.1);
           }
 
     -- permits
@@ -148,7 +148,7 @@ module _ (w : Setup) (law : Orderly w) (s : State) (c : Said) (t : ℕ) where
             role = permitted_role w c (view w s c t) operation kind;
             names = refl;
             first = first;
-            lowest = lowest_told (Permits w s c operation kind place) w.roles.members _ each ((found_some (Permits w s c operation kind place) w.roles.members _ each (permits_inside w law s c t operation kind place)).1 first.holds.1);
+            lowest = lowest_told (Permits w s c operation kind place) w.roles.members _ each ((found_some (Permits w s c operation kind place) w.roles.members _ each (permits_inside w law s c t operation kind place)).1 first.fits.1);
           }
 
     -- sets and limits

@@ -10,7 +10,7 @@ use Rattle.messages.specs.declared.post.Post.{Post}
 use Rattle.rules.specs.Answers.{Answer}
 use Rattle.rules.specs.Choices.{finds, met_place, take_lines, takes}
 use Rattle.rules.specs.Changes.{EnrolmentsOnly, Gone, Makes, MarksOnly, PermitsOnly, PostingsOnly, Same, Taken}
-use Rattle.rules.specs.Conditions.{Known, Served}
+use Rattle.rules.specs.Conditions.{Known, ServedMet}
 use Rattle.rules.specs.Promises.{MakesItsChange, Orderly, RefusedChangesNothing, found_in}
 use Rattle.rules.specs.Runs.{after, answer, changed, next, same_enrolment, same_permit, with_closed, with_enrolled, with_permitted, with_posted}
 use Rattle.rules.specs.Setup.{Setup, State, is_branch, outranks, over}
@@ -87,7 +87,7 @@ module _ (w : Setup) (law : Orderly w) (s : State) where
       Known w c → (z y : ℕ)
       → Decides (takes w c (sight w s c) person role branch z y)
       (((over w z branch ≡ true) × ((outranks w y role ≡ true) × (s.posted person y z ≡ true)))
-      × ((is_branch w z ≡ true) × Served w s c (take_lines w) person y z))
+      × ((is_branch w z ≡ true) × ServedMet w s c (take_lines w) person y z))
   unfolding takes
   takes_served sitter person role branch posts k z y =
       let c : Said = record { person = sitter; posts = posts; call = Throughout person role branch } in

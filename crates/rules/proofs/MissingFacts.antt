@@ -97,10 +97,10 @@ first_missing :
     {Rest : Answer → Type 0} (start : ℕ) (exist : List Bool) (rest : Answer)
     → (in_order (byte_tests start exist) ≡ Ok tt → Rest rest)
     → Refuses (Lowest (MissingFrom start exist)) NoSuchNumber Rest (before (in_order (byte_tests start exist)) rest)
-first_missing start [] rest go = passed (λ offset l. none_missing start offset l.holds) (go refl)
+first_missing start [] rest go = passed (λ offset l. none_missing start offset l.fits) (go refl)
 first_missing start (false ∷ exist) rest go =
     refused start
-    (record { holds = (0, omega arith, refl); none_lower = λ lower h m. omega (arith, m.1) })
+    (record { fits = (0, omega arith, refl); none_lower = λ lower h m. omega (arith, m.1) })
     refl
 first_missing {Rest = Rest} start (true ∷ exist) rest go = further (first_missing (start + 1) exist rest go)
   where
@@ -109,11 +109,11 @@ first_missing {Rest = Rest} start (true ∷ exist) rest go = further (first_miss
         → Refuses (Lowest (MissingFrom start (true ∷ exist))) NoSuchNumber Rest (before (in_order (byte_tests (start + 1) exist)) rest)
     further (refused told l is) =
         refused told
-        (record { holds = one_on start exist told l.holds; none_lower = λ lower h m. l.none_lower lower h (one_back start exist lower m) })
+        (record { fits = one_on start exist told l.fits; none_lower = λ lower h m. l.none_lower lower h (one_back start exist lower m) })
         is
     further (passed none r) =
         passed
-        (λ offset l. none offset (record { holds = one_back start exist offset l.holds; none_lower = λ lower h m. l.none_lower lower h (one_on start exist lower m) }))
+        (λ offset l. none offset (record { fits = one_back start exist offset l.fits; none_lower = λ lower h m. l.none_lower lower h (one_on start exist lower m) }))
         r
 
 -- so is the first number of a call that names nothing; where there is none, all that the call names exists
@@ -131,16 +131,16 @@ call_missing {Rest = Rest} w c rest go =
     behind e (refused told l is) =
         refused told
         (record {
-          holds = inr l.holds;
+          fits = inr l.fits;
           none_lower = λ lower h m. elim m [ inl person ↦ both_ways (is_person c.person) person.1 e | inr later ↦ l.none_lower lower h later ];
         })
         is
     behind e (passed none r) =
         passed
         (λ offset l.
-        elim l.holds [
+        elim l.fits [
           | inl person ↦ both_ways (is_person c.person) person.1 e
-          | inr later ↦ none offset (record { holds = later; none_lower = λ lower h m. l.none_lower lower h (inr m) })
+          | inr later ↦ none offset (record { fits = later; none_lower = λ lower h m. l.none_lower lower h (inr m) })
         ])
         r
 
@@ -154,7 +154,7 @@ call_missing {Rest = Rest} w c rest go =
     at false e =
         refused 4
         (record {
-          holds = inl (refl, e);
+          fits = inl (refl, e);
           none_lower = λ lower h m. elim m [ inl person ↦ omega (arith, person.0) | inr later ↦ omega (arith, later.1) ];
         })
         refl

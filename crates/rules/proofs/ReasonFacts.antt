@@ -40,14 +40,14 @@ wanted test told fault rest d go =
     tested test told fault rest (λ e. (refl, λ p. both_ways test e (d.1 p))) (λ e other r. r.1 (d.0 e)) (λ e. go (d.0 e))
 
 -- the first number that fits is the lowest of which the test decides that it does
-pub lowest_found :
+lowest_found :
     (P : ℕ → Type 0) (n : ℕ) (fits : ℕ → Bool) (k : ℕ)
     → ((j : ℕ) → j < n → Decides (fits j) (P j))
     → first_below n fits ≡ Some k
     → Lowest P k
 lowest_found P n fits k each e =
     let found = first_found fits n k e in
-    record { holds = (each k found.0).0 found.1; none_lower = λ j h p. both_ways (fits j) (found.2 j h) ((each j (omega (arith, found.0))).1 p) }
+    record { fits = (each k found.0).0 found.1; none_lower = λ j h p. both_ways (fits j) (found.2 j h) ((each j (omega (arith, found.0))).1 p) }
 
 -- something is found where there is a number of which it holds
 pub found_some :
@@ -83,4 +83,4 @@ searched {Rest = Rest} P n fits fault rest each inside go = at (first_below n fi
     at (Some k) e = refused k (lowest_found P n fits k each e) refl
     at None e =
         let none : (j : ℕ) → P j → ⊥ = λ j p. both_ways (fits j) (first_missed fits n e j (inside j p)) ((each j (inside j p)).1 p) in
-        passed (λ other l. none other l.holds) (go none)
+        passed (λ other l. none other l.fits) (go none)

@@ -1,4 +1,4 @@
--- Every answer has its reason: the first of the call's own that holds, after the numbers that it names.
+-- Every answer has its reason: the first that holds of those of its call, after the numbers that the call names.
 use Rattle.std.proofs.Common.{◌≡◌, ℕ, ◌<◌, Bool, true, false, not, ltb, List, [], ◌∷◌, length, is_some, Ok, Err, refl, ap, ◌∙◌, subst, sym, inl, inr}
 use Rattle.std.specs.Option.{unwrap_or}
 use Rattle.std.proofs.lemmas.Bool.{both_ways, cases_Bool, cond-true}
@@ -26,7 +26,7 @@ use Rattle.rules.proofs.RowFacts.{decides_false, decides_never, decides_self}
 use Rattle.rules.proofs.WordFacts.{belongs_enrolment, candidate_counts, commander_leads}
 use Rattle.rules.proofs.SightFacts.{over_one, over_self, sight_view}
 use Rattle.rules.proofs.CallFacts.{candidate_fits, register_numbers}
-use Rattle.rules.proofs.Acceptance.{counting_seen, found_held, no_candidate}
+use Rattle.rules.proofs.Acceptance.{counting_seen, found_held, no_place}
 use Rattle.rules.proofs.ReasonFacts.{searched, tested, wanted}
 use Rattle.rules.proofs.CallReasons.{barred, leader_named, leader_steps, limited, line_named, met_some, permitted_some, put_reasons, role_named, served_some, take_reasons, unmet_told}
 use Rattle.rules.proofs.MissingFacts.{call_missing}
@@ -134,14 +134,6 @@ module _ (w : Setup) (law : Orderly w) (s : State) (c : Said) (is : is_branch w 
 row_refused : (test : Bool) (fault : EngineFault) (checks : Check) (rest : Answer) → test ≡ false → before (then (must test fault) checks) rest ≡ Err fault
 row_refused false fault checks rest e = refl
 row_refused true fault checks rest e = absurd (both_ways true e refl)
-
--- at a branch that does not exist no place is a candidate
-no_place : (w : Setup) (s : State) (c : Said) (t : ℕ) → is_branch w t ≡ false → some_place c (sight w s c t).candidate ≡ false
-no_place w s c t lacks =
-    elim (cases_Bool (some_place c (sight w s c t).candidate)) [
-      | inl e ↦ absurd (no_candidate w s c t lacks e)
-      | inr e ↦ e
-    ]
 
 module _ (w : Setup) (law : Orderly w) (s : State) where
   -- at the one branch that it is about a call sees the view

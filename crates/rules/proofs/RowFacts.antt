@@ -1,5 +1,5 @@
 -- What rows of checks and searches decide, from what their parts decide.
-use Rattle.std.proofs.Common.{◌≡◌, ℕ, zero, suc, ◌<◌, Bool, true, false, cond, not, ◌&&◌, ◌||◌, ltb, [], ◌∷◌, is_some, is_ok, Some, None, Ok, Err, Decides, Option, Result, sym, refl, ◌∙◌, subst, inl, inr, arith}
+use Rattle.std.proofs.Common.{◌≡◌, ℕ, zero, suc, ◌<◌, Bool, true, false, cond, not, ◌&&◌, ◌||◌, ltb, [], ◌∷◌, is_some, is_ok, Some, None, Ok, Err, Decides, Option, Result, sym, refl, subst, inl, inr, arith}
 use Rattle.std.proofs.lemmas.Bool.{and_from, cases_lt, false≢true, lt-ltb, ltb-true}
 use Rattle.std.proofs.lemmas.Bool.Decides.{Decides-at, Decides-like}
 use Rattle.refusals.specs.Checks.{all, in_order, must, then}
@@ -56,9 +56,6 @@ pub decides_first :
     → ((k : ℕ) → k < n → Decides (fits k) (P k))
     → Decides (is_some (first_below n fits)) ((k : ℕ) × (k < n) × P k)
 decides_first P n fits each = Decides-at (is_some (first_below n fits)) (any_below n fits) (first_any fits n) (decides_any P n fits each)
-
-pub first_at : (fits : ℕ → Bool) (n k : ℕ) → k < n → fits k ≡ true → is_some (first_below n fits) ≡ true
-first_at fits n k h e = first_any fits n ∙ any_at fits n k h e
 
 -- a sum that is not 0 has an amount that is not
 some_amount : (amount : ℕ → ℕ) (n : ℕ) → 0 < sum_below n amount → (k : ℕ) × (k < n) × (0 < amount k)

@@ -4,7 +4,7 @@ use Rattle.messages.specs.Said.{Said}
 use Rattle.messages.specs.declared.call.Call.{Call}
 use Rattle.messages.specs.declared.call.Call.TheVariants.{Decide, Grant, Take, Throughout, Enrol, Strike, Open, Close, Permit, Forbid, Sit}
 use Rattle.rules.specs.Choices.{take_lines}
-use Rattle.rules.specs.Conditions.{Served}
+use Rattle.rules.specs.Conditions.{ServedMet}
 use Rattle.rules.specs.Setup.{Setup, State, is_branch, outranks, over}
 
 -- two states have the same postings
@@ -46,7 +46,7 @@ pub record Taken (w : Setup) (s : State) (c : Said) (person role branch x y z : 
   pub there : is_branch w z ≡ true
   pub higher : over w z branch ≡ true
   pub ranking : outranks w y role ≡ true
-  pub served : Served w s c (take_lines w) person y z
+  pub served : ServedMet w s c (take_lines w) person y z
 
 -- the postings change so, and nothing else does
 pub record PostingsOnly (s s' : State) (postings : Type 0) : Type 0 where

@@ -38,7 +38,7 @@ pub record Counts (w : Setup) (s : State) (person : ℕ) (post : Post) : Type 0 
   pub held : Holds w s person post.role post.branch
   pub unbarred : Unbarred w s post.branch
 
--- the post at a place of the sitting is a candidate for t: it counts, at a branch at or above t
+-- the post at a place of the sitting is a candidate for t: it counts, at a branch at or above t. (Whether t exists is asked apart)
 pub record Candidate (w : Setup) (s : State) (c : Said) (t place : ℕ) : Type 0 where
   pub sits : place < length c.posts
   pub higher : over w (post_at c.posts place).branch t ≡ true
@@ -57,7 +57,7 @@ pub record Meets (w : Setup) (s : State) (person : ℕ) (line : Line) (t : ℕ) 
   pub barred : (role : ℕ) → role < 16 → has_bit line.barred role ≡ true → Holds w s person role t → ⊥
 
 -- there is a candidate for t, and a line for the role that serves it and that the person meets at t
-pub record Served (w : Setup) (s : State) (c : Said) (lines : Lines) (person role t : ℕ) : Type 0 where
+pub record ServedMet (w : Setup) (s : State) (c : Said) (lines : Lines) (person role t : ℕ) : Type 0 where
   pub place : ℕ
   pub number : ℕ
   pub candidate : Candidate w s c t place
@@ -73,7 +73,7 @@ pub record Led (w : Setup) (c : Said) (candidates : ℕ → Type 0) : Type 0 whe
   pub leads : outranks w (post_at c.posts place).role w.plan.principal ≡ true
 
 -- decide, as role- and organization-based access says it: there is a post that counts, at a branch at or above the home, with
--- at or below its role a role that has the permit for the operation and the piece's kind, and the home is open
+-- at or below its role a role that has the permit for the operation and the piece's kind, and the home exists and is open
 pub record CanAccess (w : Setup) (s : State) (c : Said) (operation piece : ℕ) : Type 0 where
   pub home : is_branch w (home_of w piece) ≡ true
   pub place : ℕ
@@ -92,7 +92,7 @@ roles_then w s person role branch number =
 -- roles of the person then, fewer others than the limit have the role there, the posting is new, and the branch has room for it
 pub record MayGrant (w : Setup) (s : State) (c : Said) (person role branch : ℕ) : Type 0 where
   pub stands : may_stand_at w role branch ≡ true
-  pub served : Served w s c (grant_lines w) person role branch
+  pub served : ServedMet w s c (grant_lines w) person role branch
   pub unbarred : Unbarred w s branch
   pub belongs : Belongs w s person branch
   pub sets : (number : ℕ) → number < w.plan.set_count → roles_then w s person role branch number < (slice_index_or w.plan.sets number no_set).bound
@@ -102,7 +102,7 @@ pub record MayGrant (w : Setup) (s : State) (c : Said) (person role branch : ℕ
 
 -- take: a take line allows it, and the person is posted there
 pub record MayTake (w : Setup) (s : State) (c : Said) (person role branch : ℕ) : Type 0 where
-  pub served : Served w s c (take_lines w) person role branch
+  pub served : ServedMet w s c (take_lines w) person role branch
   pub posted : s.posted person role branch ≡ true
 
 -- throughout: there is a candidate, and the person holds the role at the branch, so that there is something to find
@@ -127,7 +127,7 @@ pub record MayMark (w : Setup) (s : State) (c : Said) (branch : ℕ) (closed : B
   pub led : Led w c (Commander w s c branch)
   pub mark : s.closed branch ≡ closed
 
--- permit and forbid: a candidate for branch 0 leads, and the permit is the other way
+-- permit and forbid: there is a branch 0, a candidate for it leads, and the permit is the other way
 pub record MayPermit (w : Setup) (s : State) (c : Said) (operation kind role : ℕ) (there : Bool) : Type 0 where
   pub led : Led w c (Candidate w s c 0)
   pub top : is_branch w 0 ≡ true

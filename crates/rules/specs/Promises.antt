@@ -1,4 +1,5 @@
--- The promises about single calls: accepted exactly when the conditions hold, then exactly the change, and what throughout counts.
+-- The promises about the new state and about single calls: when a call is accepted, why it is refused, what it then changes, and what
+-- throughout counts.
 use Rattle.std.specs.Prelude.{◌≡◌, ℕ, ◌<◌, Bool, true, false, not, ◌&&◌, List, is_ok, Ok, Decides}
 use Rattle.messages.specs.Said.{Said}
 use Rattle.messages.specs.declared.call.Call.TheVariants.{Decide, Throughout}
@@ -55,7 +56,7 @@ CountedThroughout =
     (postings_of w (λ o q. found_in w s person role branch o q && (next w s c).posted person q o)))
 
 -- a new state has the founding posting alone, and has it where the register has that role, a branch 0, and room for one posting there
-pub record NewAsSold (w : Setup) : Type 0 where
+pub record NewState (w : Setup) : Type 0 where
   pub posted : (x y z : ℕ) →
       Decides ((new w).posted x y z)
       (((x ≡ 0) × (y ≡ w.plan.principal) × (z ≡ 0)) × ((w.plan.principal < 16) × (0 < w.register_branches) × (0 < w.share 0)))
@@ -64,12 +65,12 @@ pub record NewAsSold (w : Setup) : Type 0 where
   pub closed : (z : ℕ) → (new w).closed z ≡ false
   pub permitted : (x y z : ℕ) → (new w).permitted x y z ≡ false
 
--- so it is of everything that is sold
-abbrev pub BeginsAsSold : Type 0
-BeginsAsSold = (w : Setup) → NewAsSold w
+-- so it is with every plan, every orders and every register
+abbrev pub BeginsFounded : Type 0
+BeginsFounded = (w : Setup) → NewState w
 
 -- every answer has its reason: a refusal tells the first of the call's reasons that holds, after the numbers that name nothing, and of what
--- it holds; an acceptance, for which none holds, names the first candidate and the lowest line or role
+-- it holds; an acceptance, for which none holds, names the first candidate that will do, and the lowest line or role where one is told
 abbrev pub AnsweredForItsReason : Type 0
 AnsweredForItsReason =
     (w : Setup) → Orderly w → (s : State) (c : Said) → Refuses (Lowest (Missing w c)) NoSuchNumber (Reasoned w s c c.call) (answer w s c)

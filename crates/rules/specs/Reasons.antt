@@ -1,5 +1,5 @@
--- Why a call is answered as it is: which reason a refusal tells, and whom and what an acceptance names. Each reason says that there is
--- something or that there is not; of several it is the first or the lowest that is told.
+-- Why a call is answered as it is: which reason a refusal tells, and what an acceptance names. Each reason says that there is something,
+-- or that there is not; where there are several, it is the first or the lowest that is told.
 use Rattle.std.specs.Prelude.{◌≡◌, ℕ, ◌+◌, ◌<◌, ◌≤◌, Bool, true, false, ◌⊎◌, List, [], ◌∷◌, ◌++◌, length, Ok, Err, slice_index_or}
 use Rattle.plans.specs.Role.{no_role}
 use Rattle.plans.specs.Set.{no_set}
@@ -11,7 +11,7 @@ use Rattle.messages.specs.declared.call.Call.TheVariants.{Decide, Grant, Take, T
 use Rattle.messages.specs.declared.post.Post.{Post}
 use Rattle.rules.specs.Answers.{Answer}
 use Rattle.rules.specs.Choices.{Lines, grant_lines, line_at, take_lines}
-use Rattle.rules.specs.Conditions.{Belongs, Candidate, Commander, Counts, Holds, Led, Meets, Served, roles_then}
+use Rattle.rules.specs.Conditions.{Belongs, Candidate, Commander, Counts, Holds, Led, Meets, ServedMet, roles_then}
 use Rattle.rules.specs.Setup.{Setup, State, home_of, is_branch, is_kind, is_operation, is_person, is_piece, is_role, outranks, over, piece_of, may_stand_at}
 use Rattle.rules.specs.Words.{post_at}
 use Rattle.rules.specs.declared.answer.Accepted.{Accepted}
@@ -20,9 +20,9 @@ use Rattle.rules.specs.declared.fault.EngineFault.{EngineFault}
 use Rattle.rules.specs.declared.fault.EngineFault.TheVariants.{NoCandidate, NotGoverned, CannotStand, Closed, Stranger, Unmet, TooManyOf, LimitReached, NoPermit, NotCounting, AlreadySo, NothingFound, Register}
 
 -- the lowest number of which this holds
-pub record Lowest (Holds : ℕ → Type 0) (number : ℕ) : Type 0 where
-  pub holds : Holds number
-  pub none_lower : (lower : ℕ) → lower < number → Holds lower → ⊥
+pub record Lowest (Fits : ℕ → Type 0) (number : ℕ) : Type 0 where
+  pub fits : Fits number
+  pub none_lower : (lower : ℕ) → lower < number → Fits lower → ⊥
 
 -- what is wanted is not so, and this number is told for it
 abbrev pub Lacks : ℕ → Type 0 → ℕ → Type 0
@@ -40,11 +40,11 @@ pub record Accepts (Named : Accepted → Type 0) (given : Answer) : Type 0 where
   pub named : Named accepted
   pub is : given ≡ Ok accepted
 
--- there is a candidate for t
+-- t exists, and there is a candidate for it
 abbrev pub SomeCandidate : Setup → State → Said → ℕ → Type 0
 SomeCandidate w s c t = (is_branch w t ≡ true) × ((place : ℕ) × Candidate w s c t place)
 
--- there is one for opening and closing t
+-- t exists, and there is a candidate for opening and closing it
 abbrev pub SomeCommander : Setup → State → Said → ℕ → Type 0
 SomeCommander w s c t = (is_branch w t ≡ true) × ((place : ℕ) × Commander w s c t place)
 
@@ -52,30 +52,31 @@ SomeCommander w s c t = (is_branch w t ≡ true) × ((place : ℕ) × Commander 
 abbrev pub Bars : Setup → State → ℕ → ℕ → Type 0
 Bars w s t o = (over w o t ≡ true) × (s.closed o ≡ true)
 
--- the line with a number is for the role and serves the post at a place
-pub record Serves (w : Setup) (c : Said) (lines : Lines) (role place number : ℕ) : Type 0 where
+-- the line with a number is in the list, is for the role, and serves the post at a place
+pub record Governs (w : Setup) (c : Said) (lines : Lines) (role place number : ℕ) : Type 0 where
   pub listed : number < lines.count
   pub governed : (line_at lines number).governed ≡ role
   pub serves : outranks w (post_at c.posts place).role (line_at lines number).governing ≡ true
 
 -- the post at a place is a candidate for t that a line for the role serves
 abbrev pub ServedAt : Setup → State → Said → Lines → ℕ → ℕ → ℕ → Type 0
-ServedAt w s c lines role t place = Candidate w s c t place × ((number : ℕ) × Serves w c lines role place number)
+ServedAt w s c lines role t place = Candidate w s c t place × ((number : ℕ) × Governs w c lines role place number)
 
--- the line with a number serves the post at a place, and the person meets it at t
-abbrev pub ServesMet : Setup → State → Said → Lines → ℕ → ℕ → ℕ → ℕ → ℕ → Type 0
-ServesMet w s c lines person role t place number = Serves w c lines role place number × Meets w s person (line_at lines number) t
+-- the line with a number does so, and the person meets it at t
+abbrev pub GovernsMet : Setup → State → Said → Lines → ℕ → ℕ → ℕ → ℕ → ℕ → Type 0
+GovernsMet w s c lines person role t place number = Governs w c lines role place number × Meets w s person (line_at lines number) t
 
 -- the post at a place is a candidate for t that such a line serves
 abbrev pub MetAt : Setup → State → Said → Lines → ℕ → ℕ → ℕ → ℕ → Type 0
-MetAt w s c lines person role t place = Candidate w s c t place × ((number : ℕ) × ServesMet w s c lines person role t place number)
+MetAt w s c lines person role t place = Candidate w s c t place × ((number : ℕ) × GovernsMet w s c lines person role t place number)
 
--- the person meets no line that serves a candidate: told is the lowest line that serves the first candidate that one serves
+-- the person meets no line for the role that serves a candidate: told is the lowest line for the role that serves the first candidate
+-- that one serves
 pub record MeetsNone (w : Setup) (s : State) (c : Said) (lines : Lines) (person role t number : ℕ) : Type 0 where
   pub place : ℕ
   pub first : Lowest (ServedAt w s c lines role t) place
-  pub lowest : Lowest (Serves w c lines role place) number
-  pub unmet : Served w s c lines person role t → ⊥
+  pub lowest : Lowest (Governs w c lines role place) number
+  pub unmet : ServedMet w s c lines person role t → ⊥
 
 -- the role is at or below that of the post at a place, and has the permit
 abbrev pub Permits : Setup → State → Said → ℕ → ℕ → ℕ → ℕ → Type 0
@@ -94,13 +95,13 @@ abbrev pub TooMany : Setup → State → ℕ → ℕ → ℕ → ℕ → Type 0
 TooMany w s person role branch number =
     (number < w.plan.set_count) × ((slice_index_or w.plan.sets number no_set).bound ≤ roles_then w s person role branch number)
 
--- an acceptance by lines names the first candidate that is served by a line that the person meets, and the lowest such line
+-- an acceptance by lines names the first candidate that a line for the role serves which the person meets, and the lowest such line
 pub record NamesLine (w : Setup) (s : State) (c : Said) (lines : Lines) (person role t : ℕ) (accepted : Accepted) : Type 0 where
   pub place : ℕ
   pub line : ℕ
   pub names : accepted ≡ Governed place line
   pub first : Lowest (MetAt w s c lines person role t) place
-  pub lowest : Lowest (ServesMet w s c lines person role t place) line
+  pub lowest : Lowest (GovernsMet w s c lines person role t place) line
 
 -- a decision names the first candidate with a role that has the permit, and the lowest such role
 pub record NamesRole (w : Setup) (s : State) (c : Said) (operation kind t : ℕ) (accepted : Accepted) : Type 0 where
@@ -116,7 +117,7 @@ pub record NamesLeader (w : Setup) (c : Said) (Candidates : ℕ → Type 0) (acc
   pub names : accepted ≡ Ordered place
   pub first : Lowest (LeadsAt w c Candidates) place
 
--- throughout names two numbers: how many were taken, and how many were found and left
+-- throughout names two numbers; which they are is a promise of its own (CountedThroughout)
 pub record NamesCounts (accepted : Accepted) : Type 0 where
   pub taken : ℕ
   pub left : ℕ

@@ -80,7 +80,7 @@ home_of w piece = (piece_of w piece).home
 abbrev pub may_stand_at : Setup → ℕ → ℕ → Bool
 may_stand_at w role branch = may_stand (slice_index_or w.plan.roles role no_role) (slice_index_or w.plan.branches branch no_branch)
 
--- the register takes the first posting: person 0 to the principal role at branch 0
+-- the register takes the founding posting: person 0 to the principal role at branch 0
 abbrev pub founded : Setup → Bool
 founded w = is_ok (put_checked nobody w.register_branches w.share 0 w.plan.principal 0)
 

@@ -1,4 +1,4 @@
--- What a call may look at: the branches at or above those that it is about, and nothing else of the state.
+-- What a call may look at: the branches at or above those that it is about, the permits, and nothing else of the state.
 use Rattle.std.specs.Prelude.{ℕ, Bool, false, cond, ◌&&◌, ◌||◌, List, [], ◌∷◌, map, length, None, Ok, Err, Option, Result, ◌==◌, nat_lt}
 use Rattle.messages.specs.Said.{Said}
 use Rattle.messages.specs.declared.call.Call.{Call}

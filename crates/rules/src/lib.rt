@@ -10,6 +10,6 @@ pub use answer::{Accepted, Answer, told};
 pub use fault::EngineFault;
 pub use laws::{kept_within_reach, told_as_marked};
 pub use promises::{
-    accepted_when_allowed, answered_for_its_reason, begins_as_sold, counted_throughout,
+    accepted_when_allowed, answered_for_its_reason, begins_founded, counted_throughout,
     decided_as_modelled, makes_its_change, refused_changes_nothing,
 };

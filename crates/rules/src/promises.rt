@@ -1,9 +1,9 @@
 // The promises about the rules, each named by a contract.
-ghost use Rattle.rules.specs.Promises.{AcceptedWhenAllowed, AnsweredForItsReason, BeginsAsSold, CountedThroughout, DecidedAsModelled, MakesItsChange, RefusedChangesNothing};
+ghost use Rattle.rules.specs.Promises.{AcceptedWhenAllowed, AnsweredForItsReason, BeginsFounded, CountedThroughout, DecidedAsModelled, MakesItsChange, RefusedChangesNothing};
 
-// A new state has the founding posting and no other, nobody enrolled, every mark open and no permits.
-pub fn begins_as_sold()
-    ensures { BeginsAsSold }
+// A new state has the founding posting, where the register takes it, and no other; nobody enrolled, every mark open, no permits.
+pub fn begins_founded()
+    ensures { BeginsFounded }
 {}
 
 // A call is accepted exactly when all that it names exists and its conditions hold.
@@ -31,7 +31,7 @@ pub fn counted_throughout()
     ensures { CountedThroughout }
 {}
 
-// Every answer has its reason: a refusal tells the first that holds, and an acceptance names the first candidate.
+// Every answer has its reason: a refusal tells the first that holds, and an acceptance names the first candidate that will do.
 pub fn answered_for_its_reason()
     ensures { AnsweredForItsReason }
 {}
