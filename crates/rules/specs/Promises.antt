@@ -65,7 +65,7 @@ pub record NewState (w : Setup) : Type 0 where
   pub closed : (z : ℕ) → (new w).closed z ≡ false
   pub permitted : (x y z : ℕ) → (new w).permitted x y z ≡ false
 
--- so it is with every plan, every orders and every register
+-- so it is with every plan, all orders and all shares
 abbrev pub BeginsFounded : Type 0
 BeginsFounded = (w : Setup) → NewState w
 
